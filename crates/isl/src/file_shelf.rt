@@ -1,4 +1,4 @@
-// The files of the system as a shelf.
+// The files of the system, and its standard input, as a shelf.
 
 ghost use Rattle.std.specs.Prelude.{◌≡◌, ◌≤◌, length, None, IfOk};
 
@@ -9,14 +9,20 @@ use std::io::{Read, Seek, SeekFrom};
 use std::rt::Files;
 use std::{fs, io};
 
-/// The files that a runtime reaches, each under its path. It tells no content. The file that was asked for last stays
-/// open, and is read on from where the last call ended, so a pipe is read too; a call that goes elsewhere seeks. One
-/// that is missing, or where a call goes elsewhere and it cannot be sought in, is a fault, behind which it is opened
-/// anew.
+/// The name of the standard input among files.
+const STANDARD_INPUT: &str = "-";
+
+/// The files that a runtime reaches, each under its path, and the standard input under the name `-`. It tells no
+/// content. The file that was asked for last stays open, and is read on from where the last call ended, so a pipe is
+/// read too; a call that goes elsewhere seeks. One that is missing, or where a call goes elsewhere and it cannot be
+/// sought in, is a fault, behind which it is opened anew. The standard input is read on alone: a call that goes
+/// elsewhere is a fault.
 #[derive(Drop)]
-pub struct FileShelf<'a, R: Files> {
+pub struct FileShelf<'a, R: Files, I: Read + Drop> {
     files: &'a R,
     alloc: Global,
+    input: I,
+    input_at: u64,
     last: Option<OpenFile<R::File>>,
     faults: FaultCount,
 }
@@ -39,17 +45,32 @@ impl<F: Drop> OpenFile<F> {
     }
 }
 
-impl<'a, R: Files> FileShelf<'a, R> {
-    /// The files of that runtime; no call has failed yet, and no file is open.
-    pub fn new(files: &'a R, alloc: Global) -> FileShelf<'a, R>
+impl<'a, R: Files, I: Read + Drop> FileShelf<'a, R, I> {
+    /// The files of that runtime and its standard input; no call has failed yet, and no file is open.
+    pub fn new(files: &'a R, input: I, alloc: Global) -> FileShelf<'a, R, I>
         ensures { result.faults.raised ≡ 0 }
     {
         FileShelf {
             files,
             alloc,
+            input,
+            input_at: 0,
             last: None,
             faults: FaultCount::new(),
         }
+    }
+
+    // Reads once from the standard input, if the place is the one to which it was read; else it fails.
+    fn read_input(&mut self, at: u64, buf: &mut [u8]) -> io::Result<usize>
+        ensures count { self.new.faults ≡ self.old.faults }
+        ensures bound { IfOk result (λ n. n ≤ length buf.old) }
+    {
+        if self.input_at != at {
+            return Err(io::Error::from(io::ErrorKind::NotSeekable));
+        }
+        let count = self.input.read(buf)?;
+        self.input_at = at.saturating_add(count as u64);
+        Ok(count)
     }
 
     // Reads once from that place of the named file, which then stays open.
@@ -57,6 +78,9 @@ impl<'a, R: Files> FileShelf<'a, R> {
         ensures count { self.new.faults ≡ self.old.faults }
         ensures bound { IfOk result (λ n. n ≤ length buf.old) }
     {
+        if name == STANDARD_INPUT {
+            return self.read_input(at, buf);
+        }
         let mut open = match self.last.take() {
             Some(open) if open.is_named(name) => open,
             other => {
@@ -78,7 +102,7 @@ impl<'a, R: Files> FileShelf<'a, R> {
     }
 }
 
-impl<'a, R: Files> Shelf for FileShelf<'a, R> {
+impl<'a, R: Files, I: Read + Drop> Shelf for FileShelf<'a, R, I> {
     ghost holds = { λ _ _. None };
 
     ghost faults = { λ s. s.faults.raised };

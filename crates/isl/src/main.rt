@@ -71,7 +71,7 @@ fn called<E: Sink>(rt: &HostRuntime, words: &Words, err: &mut E) -> Status
     ensures line { result ≢ WriteFault → (answer : AnswerValue) × ((result ≡ status_of_answer answer)
         × WasGiven (E.given err.old) (line_of (name_in (asked words.now)) answer) (E.given err.new)) }
 {
-    let mut shelf = FileShelf::new(rt, rt.alloc());
+    let mut shelf = FileShelf::new(rt, rt.stdin(), rt.alloc());
     let mut input = StdSource::new(rt.stdin());
     let mut out = StdSink::new(rt.stdout());
     let mut kept = Kept::new();

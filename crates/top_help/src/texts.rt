@@ -4,7 +4,7 @@
 pub const HELP: &[u8] =
     br##"isl, an ahead-of-time compiler for ISLISP (ISO/IEC 13816:2007, whole numbers) to RISC-V
 
-usage: isl [--steps N] [--arena W] ACTION FILE
+usage: isl [--steps N] [--arena W] ACTION FILE       (FILE may be -, the standard input)
        isl explain WHAT
 
 actions

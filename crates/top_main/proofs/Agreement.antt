@@ -33,7 +33,7 @@ has_ended program m x (inr u) more = let no : ended_unhandled u.condition u.plac
 pub agrees : LawOfLevels → LawOfAgreement
 agrees levels_law names program image arena levels steps input is_image fits most below bytes ended_so stopped =
     let x : Ended = the_run image arena steps input in
-    let here = stops program (meaning names program input steps unlimited) x stopped ((is_image arena input fits most bytes).ends steps below) in
+    let here = stops program (meaning names program input steps unlimited) x stopped ((is_image.does arena input fits most bytes).ends steps below) in
     let more = levels + steps in
     let by_run = (levels_law names program input unlimited steps more (omega arith)).same (has_ended program (meaning names program input steps unlimited) x here) in
     let by_meaning = (levels_law names program input unlimited levels more (omega arith)).same (ended (meaning names program input levels unlimited).end ended_so) in

@@ -65,7 +65,7 @@ module _ (names : List (List ℕ)) (program : ProgramRows) (image : Image) (aren
   Of input = Ways program (meaning names program input steps unlimited) (the_run image arena steps input)
 
   ways : (input : List ℕ) → AreBytes input → Of input
-  ways input bytes = (is_image arena input fits most bytes).ends steps below
+  ways input bytes = (is_image.does arena input fits most bytes).ends steps below
 
   came : (e : ImageEnd) (ending : Ending) → e.ending ≡ ending → ComesTo ending image arena steps left left' sent e
       → RunComes names program image arena steps left left' sent (end_told program.sites e.site ending)

@@ -1,5 +1,5 @@
 -- What an image that was built does, with what its words say of values by themselves.
-use Rattle.std.proofs.Common.{◌≡◌, ℕ, List, ◌⊎◌, inl, inr}
+use Rattle.std.proofs.Common.{refl, ◌≡◌, ◌≤◌, ◌^◌, ℕ, List, length, ◌⊎◌, inl, inr, subst}
 use Rattle.std.specs.Prelude.{slice_index}
 use Rattle.lang_meaning.specs.declared.program.ProgramRows.{ProgramRows}
 use Rattle.lang_meaning.specs.Meaning.{Meant}
@@ -7,7 +7,10 @@ use Rattle.rv_machine.specs.declared.ending.Ending.TheVariants.{Budget}
 use Rattle.rv_machine.specs.declared.image.Image.{Image}
 use Rattle.rv_machine.specs.Run.{Ended}
 use Rattle.back_build.specs.Means.{HaltsWith, EndsUnhandled, EndsFull, IsBuilt}
-use Rattle.top_main.specs.Images.{Halts, Signals, HasNoRoom, IsImageOf}
+use Rattle.back_build.specs.Reached.{OfReached, IsSized}
+use Rattle.back_image_sizes.specs.Sizes.{program_image_words}
+use Rattle.top_main.specs.Images.{AreBytes, Halts, Signals, HasNoRoom, Does, IsImageOf}
+use Rattle.top_main.specs.Sizes.{most_words}
 use Rattle.top_main.proofs.WordOf.{word_is}
 
 -- the ends of its runs
@@ -45,8 +48,9 @@ module _ (names : List (List ℕ)) (program : ProgramRows) (m : Meant) (x : Ende
   ways (inr (inr (inl u))) = inr (inr (inl (signals u)))
   ways (inr (inr (inr f))) = inr (inr (inr (no_room f)))
 
-pub seen : (names : List (List ℕ)) (program : ProgramRows) (image : Image) → IsBuilt names program image → IsImageOf names program image
-seen names program image built = λ arena input fits most bytes.
+does : (names : List (List ℕ)) (program : ProgramRows) (image : Image) → IsBuilt names program image
+    → (arena : ℕ) (input : List ℕ) → length image.words ≤ arena → arena ≤ 2 ^ 24 → AreBytes input → Does names program image.words image.entry arena input
+does names program image built arena input fits most bytes =
     let means = built arena input fits most bytes in
     record {
       prefix = means.prefix;
@@ -58,3 +62,20 @@ seen names program image built = λ arena input fits most bytes.
           let ended = means.in_time charge k n holds small enough in
           (λ v e. halts names program _ _ (ended.0 v e), λ c place e. signals names program _ _ (ended.1 c place e));
     }
+
+-- the words of an image, by the numbers of the statement
+most_is : (program : ProgramRows) → program_image_words program ≡ most_words program
+most_is program = refl
+
+pub seen :
+    (names : List (List ℕ)) (program : ProgramRows) (image : Image) → IsBuilt names program image → IsSized image program
+    → OfReached names program (IsSized image) → IsImageOf names program image
+seen names program image built sized reached = record {
+  does = does names program image built;
+  small = record {
+    left = reached.0;
+    keeps = reached.1;
+    by_reached = subst (λ n. length image.words ≤ n) (most_is reached.0) reached.2;
+    by_whole = subst (λ n. length image.words ≤ n) (most_is program) sized;
+  };
+}

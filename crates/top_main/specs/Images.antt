@@ -11,6 +11,7 @@ use Rattle.lang_meaning.specs.Values.{Value, integer, character, symbol, nil, ob
 use Rattle.rv_machine.specs.declared.ending.Ending.TheVariants.{Budget, Halt, Unhandled, Full}
 use Rattle.rv_machine.specs.declared.image.Image.{Image}
 use Rattle.rv_machine.specs.Run.{Ended, run_of}
+use Rattle.top_main.specs.Sizes.{IsSmall}
 
 -- an input is bytes
 abbrev pub AreBytes : List ℕ → Type 0
@@ -99,8 +100,10 @@ module _ (names : List (List ℕ)) (program : ProgramRows) (image : List ℕ) (e
         × ((c : Value) (place : Place) → (meaning names program input k (words charge)).end ≡ ended_unhandled c place
         → Signals program (meaning names program input k (words charge)) (ran n))
 
--- **an image is that of a program**: in every arena that has room for it, with every input of bytes, it does what the program means
-abbrev pub IsImageOf : (names : List (List ℕ)) (program : ProgramRows) → Image → Type 0
-IsImageOf names program image =
-    (arena : ℕ) (input : List ℕ) → length image.words ≤ arena → arena ≤ 2 ^ 24 → AreBytes input
-    → Does names program image.words image.entry arena input
+-- **an image is that of a program**: in every arena that has room for it, with every input of bytes, it does what the program means; and it has no
+-- more words than by what is reached of the program
+pub record IsImageOf (names : List (List ℕ)) (program : ProgramRows) (image : Image) : Type 0 where
+  pub does :
+      (arena : ℕ) (input : List ℕ) → length image.words ≤ arena → arena ≤ 2 ^ 24 → AreBytes input
+      → Does names program image.words image.entry arena input
+  pub small : IsSmall names program image

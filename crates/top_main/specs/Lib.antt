@@ -1,3 +1,4 @@
+pub mod Sizes
 pub mod Images
 pub mod Theorem
 pub mod Answers
