@@ -27,10 +27,11 @@ module _ (names : List (List ℕ)) (program : ProgramRows) (procedures : List Pr
   left = record program { procedures = procedures }
 
   -- all that an end speaks of is the same
-  has_word : (x : Ended) (v : Value) (word : ℕ) → HasWord names left x v word → HasWord names program x v word
-  has_word x v word h = record {
+  has_word : (m : Meant) (x : Ended) (v : Value) (word : ℕ) → HasWord names left m x v word → HasWord names program m x v word
+  has_word m x v word h = record {
     places = h.places;
     state = h.state;
+    alike = h.alike;
     arena = h.arena;
     represents = h.represents;
     of_value = h.of_value;
@@ -43,7 +44,7 @@ module _ (names : List (List ℕ)) (program : ProgramRows) (procedures : List Pr
     ending = h.ending;
     result = h.result;
     end = h.end;
-    has_word = has_word x h.result h.word h.has_word;
+    has_word = has_word m x h.result h.word h.has_word;
     printed = h.printed;
   }
 
@@ -56,7 +57,7 @@ module _ (names : List (List ℕ)) (program : ProgramRows) (procedures : List Pr
     end = h.end;
     class_is = h.class_is;
     site_is = h.site_is;
-    has_word = has_word x h.condition _ h.has_word;
+    has_word = has_word m x h.condition _ h.has_word;
     printed = h.printed;
   }
 

@@ -11,3 +11,4 @@ mod Tested
 mod Failing
 mod Sized
 mod Left
+mod WordsLeft

@@ -9,11 +9,13 @@ use Rattle.lang_meaning.specs.Meaning.{Meant, End, meaning, ended_value, ended_u
 use Rattle.lang_meaning.specs.Prefixes.{IsPrefix}
 use Rattle.lang_meaning.specs.State.{Limit, words, unlimited}
 use Rattle.lang_meaning.specs.Values.{Value}
+use Rattle.lang_alike.specs.Alike.{StoresAlike}
 use Rattle.flat_language.specs.Flatten.{flat_program}
 use Rattle.flat_language.specs.FlatMeaning.{flat_meaning}
 use Rattle.flat_language.specs.FlatNodes.{tables}
 use Rattle.flat_language.specs.declared.program.FlatProgram.{FlatProgram}
 use Rattle.flat_language.specs.Law.{SameRun, LawOfClosures}
+use Rattle.flat_stores.specs.Laws.{LawOfStores}
 use Rattle.rv_machine.specs.declared.ending.Ending.TheVariants.{Halt, Unhandled}
 use Rattle.rv_machine.specs.Run.{Ended, run_of}
 use Rattle.mid_code.specs.State.{MidState}
@@ -25,7 +27,7 @@ use Rattle.back_meant.specs.Laws.{with_limits, HaltsAs, UnhandledAs, EndsWell, M
 use Rattle.back_build.specs.Means.{Holds, HaltsWith, EndsUnhandled, EndsFull, IsFull}
 use Rattle.back_build.specs.Laws.{LawOfWholeMeaning}
 
-module _ (closures : LawOfClosures) (program : ProgramRows) (base : Setting) (whole : is_whole program ≡ true) (flat : base.program ≡ flat_program program)
+module _ (closures : LawOfClosures) (stores : LawOfStores) (program : ProgramRows) (base : Setting) (whole : is_whole program ≡ true) (flat : base.program ≡ flat_program program)
     (at : ℕ) (image : List ℕ) (arena : ℕ) (input : List ℕ) (w : World) (y : MidState)
     (begins : (charge turns : ℕ) → Holds arena image charge → ProgramBegins (with_limits base (words charge) turns) input w y)
     (runs : MeantRuns base image at arena input w y) where
@@ -45,6 +47,12 @@ module _ (closures : LawOfClosures) (program : ProgramRows) (base : Setting) (wh
   same k limit =
       subst (λ (p : FlatProgram). SameRun (whole_meaning k limit) (flat_meaning names p input k limit)) (sym flat) (closures names program whole input k limit)
 
+  -- the store with which the flat program ends
+  alike : (k turns : ℕ) (limit : Limit) → StoresAlike (whole_meaning k limit).store (meant_by (with_limits base limit turns) input k).state.state.store
+  unfolding flat_meaning
+  alike k turns limit =
+      subst (λ (p : FlatProgram). StoresAlike (whole_meaning k limit).store (flat_meaning names p input k limit).store) (sym flat) (stores names program whole input k limit)
+
   -- a run that halted, or ended unhandled, with any limit
   halted : (k turns : ℕ) (limit : Limit) (x : Ended) (word : ℕ) → x.ending ≡ Halt word → HaltsAs (with_limits base limit turns) input k y x word
       → HaltsWith names program (whole_meaning k limit) x
@@ -56,6 +64,7 @@ module _ (closures : LawOfClosures) (program : ProgramRows) (base : Setting) (wh
     has_word = record {
       places = h.world.places;
       state = (meant_by (with_limits base limit turns) input k).state.state;
+      alike = alike k turns limit;
       arena = h.state;
       represents = subst (λ (p : FlatProgram). Represents names (tables p) h.world.places (meant_by (with_limits base limit turns) input k).state.state h.state) flat h.things.represents;
       of_value = h.of_value;
@@ -80,6 +89,7 @@ module _ (closures : LawOfClosures) (program : ProgramRows) (base : Setting) (wh
     has_word = record {
       places = h.world.places;
       state = (meant_by (with_limits base limit turns) input k).state.state;
+      alike = alike k turns limit;
       arena = h.state;
       represents = subst (λ (p : FlatProgram). Represents names (tables p) h.world.places (meant_by (with_limits base limit turns) input k).state.state h.state) flat h.things.represents;
       of_value = h.of_condition;
@@ -139,16 +149,16 @@ module _ (closures : LawOfClosures) (program : ProgramRows) (base : Setting) (wh
         let h = in_time.1 c place ((same k (words charge)).end ∙ e) in
         unhandled k (turns_for n k charge) (words charge) (the_run n) h.0 h.1 h.2
 
-pub whole_meaning_law : LawOfClosures → LawOfWholeMeaning
-whole_meaning_law closures program base whole flat at image arena input w y begins runs = record {
-  prefix = prefix closures program base whole flat at image arena input w y begins runs;
+pub whole_meaning_law : LawOfClosures → LawOfStores → LawOfWholeMeaning
+whole_meaning_law closures stores program base whole flat at image arena input w y begins runs = record {
+  prefix = prefix closures stores program base whole flat at image arena input w y begins runs;
   ends = λ n few. elim (runs.ends n) [
     | inl budget ↦ inl budget
-    | inr (turns, well_ended) ↦ inr (well closures program base whole flat at image arena input w y begins runs n turns well_ended)
+    | inr (turns, well_ended) ↦ inr (well closures stores program base whole flat at image arena input w y begins runs n turns well_ended)
   ];
-  full = full closures program base whole flat at image arena input w y begins runs;
+  full = full closures stores program base whole flat at image arena input w y begins runs;
   in_time = λ charge k n holds low paid. (
-    of_value closures program base whole flat at image arena input w y begins runs charge k n holds low paid,
-    of_condition closures program base whole flat at image arena input w y begins runs charge k n holds low paid,
+    of_value closures stores program base whole flat at image arena input w y begins runs charge k n holds low paid,
+    of_condition closures stores program base whole flat at image arena input w y begins runs charge k n holds low paid,
   );
 }

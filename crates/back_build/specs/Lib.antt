@@ -7,3 +7,4 @@ pub mod Named
 pub mod Counted
 pub mod Reached
 pub mod Faults
+pub mod WordsLeft

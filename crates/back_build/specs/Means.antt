@@ -7,6 +7,7 @@ use Rattle.lang_meaning.specs.Meaning.{Meant, meaning, ended_value, ended_unhand
 use Rattle.lang_meaning.specs.Prefixes.{IsPrefix}
 use Rattle.lang_meaning.specs.State.{State, no_place, words, unlimited}
 use Rattle.lang_meaning.specs.Values.{Value}
+use Rattle.lang_alike.specs.Alike.{StoresAlike}
 use Rattle.flat_language.specs.Flatten.{flat_program}
 use Rattle.flat_language.specs.FlatNodes.{tables}
 use Rattle.rv_machine.specs.declared.ending.Ending.TheVariants.{Budget, Halt, Unhandled, Full}
@@ -24,10 +25,11 @@ abbrev pub Holds : (arena : ℕ) (image : List ℕ) (charge : ℕ) → Type 0
 Holds arena image charge = charge + start_words + length image ≤ arena
 
 module _ (names : List (List ℕ)) (program : ProgramRows) where
-  -- a word that stands for a value, in the memory with which a run ended
-  pub record HasWord (x : Ended) (v : Value) (word : ℕ) : Type 0 where
+  -- a word that stands for a value, in the memory with which a run ended; the objects there are those that the program left, but for functions
+  pub record HasWord (m : Meant) (x : Ended) (v : Value) (word : ℕ) : Type 0 where
     pub places : Places
     pub state : State
+    pub alike : StoresAlike m.store state.store
     pub arena : MidState
     pub represents : Represents names (tables (flat_program program)) places state arena
     pub of_value : word_of places v ≡ Some word
@@ -43,7 +45,7 @@ module _ (names : List (List ℕ)) (program : ProgramRows) where
     pub ending : x.ending ≡ Halt word
     pub result : Value
     pub end : m.end ≡ ended_value result
-    pub has_word : HasWord x result word
+    pub has_word : HasWord m x result word
     pub printed : x.at.printed ≡ m.printed
 
   -- It ended with the class of the condition that the program did not handle; register 11 has the site, and register 12 the condition's word.
@@ -55,7 +57,7 @@ module _ (names : List (List ℕ)) (program : ProgramRows) where
     pub end : m.end ≡ ended_unhandled condition place
     pub class_is : class ≡ class_in m.store condition
     pub site_is : IsSite (slice_index x.at.state.registers 11) place
-    pub has_word : HasWord x condition (slice_index x.at.state.registers 12)
+    pub has_word : HasWord m x condition (slice_index x.at.state.registers 12)
     pub printed : x.at.printed ≡ m.printed
 
   -- it had no room

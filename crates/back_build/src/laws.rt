@@ -2,6 +2,7 @@
 
 ghost use Rattle.back_build.specs.Laws.{LawOfWholeMeaning};
 ghost use Rattle.back_build.specs.Compiled.{LawOfCompiled, LawOfBuilt, LawOfBuiltSize, LawOfLeft};
+ghost use Rattle.back_build.specs.WordsLeft.{LawOfWordsLeft};
 
 use back_images::law_images;
 use back_layout::law_placed_laid_out;
@@ -10,12 +11,14 @@ use back_meant::law_meant_runs;
 use back_program_code::law_first_of_image;
 use back_words::laws::{law_beginnings, law_whole_programs};
 use flat_language::laws::{law_closures, law_flat_programs};
+use flat_stores::laws::law_stores;
 
 /// An image that does what a flat program means does what the whole program means that was made flat.
 pub fn law_whole_meaning()
     ensures { LawOfWholeMeaning }
 {
     law_closures();
+    law_stores();
 }
 
 /// The image of a whole program that was made flat and lowered does what the program means, whatever was decided of places, where it was
@@ -52,4 +55,9 @@ pub fn law_built_size()
 /// An image of the program that keeps what is reached does what the whole program means.
 pub fn law_left()
     ensures { LawOfLeft }
+{}
+
+/// The words of the machine's memory are, at each address that is lent, those of the arena with which a run ended.
+pub fn law_words_left()
+    ensures { LawOfWordsLeft }
 {}

@@ -21,7 +21,7 @@ module _ (names : List (List ℕ)) (program : ProgramRows) (m : Meant) (x : Ende
     ending = h.ending;
     result = h.result;
     end = h.end;
-    word_is = word_is names program x h.result h.word h.has_word;
+    word_is = word_is names program m x h.result h.word h.has_word;
     printed = h.printed;
   }
 
@@ -34,7 +34,7 @@ module _ (names : List (List ℕ)) (program : ProgramRows) (m : Meant) (x : Ende
     end = u.end;
     class_is = u.class_is;
     site_is = u.site_is;
-    word_is = word_is names program x u.condition (slice_index x.at.state.registers 12) u.has_word;
+    word_is = word_is names program m x u.condition (slice_index x.at.state.registers 12) u.has_word;
     printed = u.printed;
   }
 

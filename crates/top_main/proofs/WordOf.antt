@@ -2,6 +2,7 @@
 use Rattle.std.proofs.Common.{◌≡◌, ◌⊎◌, inl, inr, ℕ, zero, suc, ◌<◌, ◌≤◌, List, refl, sym, arith}
 use Rattle.std.specs.Prelude.{◌%◌}
 use Rattle.lang_meaning.specs.declared.program.ProgramRows.{ProgramRows}
+use Rattle.lang_meaning.specs.Meaning.{Meant}
 use Rattle.lang_meaning.specs.Values.{Value, integer, character, symbol, nil, object}
 use Rattle.flat_language.specs.Flatten.{flat_program}
 use Rattle.flat_language.specs.FlatNodes.{tables}
@@ -20,8 +21,8 @@ one_or_two (suc zero) some low = inl refl
 one_or_two (suc (suc zero)) some low = inr refl
 one_or_two (suc (suc (suc n))) some low = absurd (omega (arith, low))
 
-module _ (names : List (List ℕ)) (program : ProgramRows) (x : Ended) where
-  pub word_is : (v : Value) (word : ℕ) → HasWord names program x v word → IsWordOf word v
+module _ (names : List (List ℕ)) (program : ProgramRows) (m : Meant) (x : Ended) where
+  pub word_is : (v : Value) (word : ℕ) → HasWord names program m x v word → IsWordOf word v
   word_is (integer n) word h = (integer_word_is h.places n word h.of_value).1
   word_is (character c) word h = (character_word_is h.places c word h.of_value).1
   word_is (symbol s) word h = tag_told names (tables (flat_program program)) h.places h.state h.arena h.represents (symbol s) word h.of_value
