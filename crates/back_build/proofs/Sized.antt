@@ -1,6 +1,6 @@
 -- How many words an image has that was made of the code of a whole program: its words end where its code does, and the words laid beside it are
 -- within their bounds.
-use Rattle.std.proofs.Common.{◌≡◌, ℕ, ◌+◌, ◌^◌, ◌<◌, ◌≤◌, ◌-◌, List, length, sym, ap, subst, ◌∙◌, arith}
+use Rattle.std.proofs.Common.{◌≡◌, ℕ, ◌^◌, ◌<◌, ◌≤◌, ◌-◌, List, length, sym, ap, subst, ◌∙◌, arith}
 use Rattle.flat_language.specs.Flatten.{flat_program}
 use Rattle.flat_language.specs.Law.{LawOfFlatPrograms}
 use Rattle.mid_code.specs.declared.program.MidProcedure.{MidProcedure}

@@ -1,7 +1,6 @@
 -- Two lists of words with the same bytes have the same words.
-use Rattle.std.proofs.Common.{◌≡◌, ◌<◌, ℕ, ◌+◌, ◌*◌, ◌/◌, ◌^◌, List, length, get_or, sym, ap, ◌∙◌, arith, Some}
+use Rattle.std.proofs.Common.{◌≡◌, ◌<◌, ℕ, ◌*◌, ◌/◌, ◌^◌, List, length, get_or, sym, ap, ◌∙◌, arith, Some}
 use Rattle.std.proofs.lemmas.Option.{slice_get-get_or}
-use Rattle.std.specs.Prelude.{slice_get, slice_index}
 use Rattle.rv_machine.specs.Memory.{bytes_of, number_at}
 use Rattle.rv_machine.specs.Words.{length-bytes_of, word_read}
 use Rattle.back_emission.proofs.Addresses.{word_there}

@@ -12,4 +12,6 @@ mod names_there;
 
 pub use building::build;
 pub use faults::BuildFault;
-pub use laws::{law_built, law_built_size, law_compiled, law_left, law_whole_meaning, law_words_left};
+pub use laws::{
+    law_built, law_built_size, law_compiled, law_left, law_whole_meaning, law_words_left,
+};
