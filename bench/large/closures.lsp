@@ -1,0 +1,6 @@
+(defun compose (f g) (lambda (x) (funcall f (funcall g x))))
+(defun iterate (f n) (if (= n 0) (lambda (x) x) (compose f (iterate f (- n 1)))))
+(let ((sum 0) (f (iterate (lambda (x) (+ x 1)) 50)))
+  (for ((i 0 (+ i 1))) ((= i 60000))
+    (setq sum (mod (+ sum (funcall f i)) 100003)))
+  (format (standard-output) "~D~%" sum))

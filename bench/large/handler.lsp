@@ -1,0 +1,5 @@
+(defun risky (n) (+ n (cerror "go on" "stop ~D" n)))
+(let ((sum 0))
+  (for ((i 0 (+ i 1))) ((= i 500000))
+    (setq sum (mod (+ sum (with-handler (lambda (c) (continue-condition c 3)) (risky i))) 100003)))
+  (format (standard-output) "~D~%" sum))

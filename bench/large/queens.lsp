@@ -1,0 +1,12 @@
+(defun safe (row dist placed)
+  (cond ((null placed) t)
+        ((= row (car placed)) nil)
+        ((= (abs (- row (car placed))) dist) nil)
+        (t (safe row (+ dist 1) (cdr placed)))))
+(defun place (k n placed)
+  (if (= k 0) 1
+      (let ((count 0))
+        (for ((row 1 (+ row 1))) ((> row n) count)
+          (if (safe row 1 placed)
+              (setq count (+ count (place (- k 1) n (cons row placed)))))))))
+(format (standard-output) "~D~%" (place 9 9 nil))

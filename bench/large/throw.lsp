@@ -1,0 +1,8 @@
+(defglobal cleaned 0)
+(defun dig (n)
+  (if (= n 0) (throw 'out 7)
+      (unwind-protect (dig (- n 1)) (setq cleaned (+ cleaned 1)))))
+(let ((sum 0))
+  (for ((i 0 (+ i 1))) ((= i 80000))
+    (setq sum (+ sum (catch 'out (dig 20)))))
+  (format (standard-output) "~D ~D~%" sum cleaned))
