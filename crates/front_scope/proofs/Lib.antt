@@ -6,5 +6,3 @@ pub mod Cutting
 pub mod Counting
 pub mod Beginning
 pub mod Keeping
-pub mod ClassCounts
-pub mod CellBounds

@@ -2,4 +2,3 @@ pub mod Scopes
 pub mod Cuts
 pub mod Walk
 pub mod Cells
-pub mod Below

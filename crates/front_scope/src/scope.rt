@@ -9,15 +9,18 @@ ghost use Rattle.front_profile.specs.Definitions.{SoundTables};
 ghost use Rattle.front_scope.specs.Cuts.{mark_of};
 ghost use Rattle.front_profile.specs.Promises.{FormStops};
 ghost use Rattle.front_profile.specs.Known.{KnownTables};
+ghost use Rattle.front_cells.specs.Counts.{IsCellCount};
+ghost use Rattle.front_scope.specs.Cells.{IsCountAfter};
 ghost use Rattle.front_scope.specs.Walk.{FormGives};
 ghost use Rattle.front_scope.specs.Scopes.{top, top_spot, with_main, rows_of, nodes_of, IsWhole, IsElaborated, IsTaken, IsFormStopped, AreInitialTables};
 
-use crate::cells::has_too_many_cells;
+use crate::cells::{Taken, count_cells, too_large};
 use crate::counts::with_added;
 use crate::first::{first_tables, reserved_words};
 use crate::judge::judge;
 use crate::mark::{Mark, cut_to, mark_of};
-use base::{Datum, Names, NoMemory, Origin, Reason, Refusal, Stop};
+use base::{Datum, Names, NoMemory, Origin, Reason, Stop};
+use front_cells::CellCount;
 use front_context::Bindings;
 use front_elaboration::Formed;
 use front_profile::whole_laws::{law_programs, law_suits, law_top_forms};
@@ -36,6 +39,7 @@ pub struct Scope {
     alloc: Global,
     tables: Tables,
     nodes: u64,
+    cells: CellCount,
 }
 
 impl Model for Scope {
@@ -52,9 +56,11 @@ impl Model for Scope {
     ghost view = { λ s. s.tables };
 
     ghost use Rattle.std.specs.Prelude.{◌≡◌};
+    ghost use Rattle.front_cells.specs.Counts.{IsCellCount};
     ghost use Rattle.front_scope.specs.Scopes.{nodes_of, IsWhole};
 
-    ghost invariant = { λ s. (s.nodes ≡ nodes_of s.tables) × IsWhole s.tables };
+    ghost invariant = { λ s.
+        (s.nodes ≡ nodes_of s.tables) × (IsWhole s.tables × IsCellCount s.tables.classes.rows s.tables.generics s.cells) };
 }
 
 // Where a top-level form stands: a form of a file has a site.
@@ -129,16 +135,6 @@ fn judge_top(
     Ok(())
 }
 
-// A form that is too large, as a whole.
-fn too_large(datum: &Datum, reason: Reason) -> Stop
-    ensures { result ≡ Stop.Refused (record { place = place_of datum.now; reason = reason }) }
-{
-    Stop::Refused(Refusal {
-        place: datum.place,
-        reason,
-    })
-}
-
 // The same, with the nodes of the program then, which are within their limit, as its cells are.
 fn take_form(
     alloc: Global,
@@ -146,15 +142,18 @@ fn take_form(
     tables: &mut Tables,
     mark: &Mark,
     nodes: u64,
+    cells: &CellCount,
     datum: &Datum,
     origin: Origin,
-) -> Result<u64, Stop>
+) -> Result<Taken, Stop>
     requires good { WellFormed (length names.old) datum.now }
     requires mark { mark.now ≡ mark_of tables.old }
     requires nodes { nodes ≡ nodes_of tables.old }
     requires whole { IsWhole tables.old }
+    requires cells { IsCellCount tables.old.classes.rows tables.old.generics cells.now }
     ensures taken { OnOk result (IsTaken names.new origin tables.old datum.now tables.new) }
-    ensures nodes { IfOk result (λ nodes. nodes ≡ nodes_of tables.new) }
+    ensures nodes { IfOk result (λ taken. taken.nodes ≡ nodes_of tables.new) }
+    ensures cells { IfOk result (λ taken. IsCountAfter tables.new cells.now taken.cells) }
     ensures whole { OnOk result (IsWhole tables.new) }
     ensures stop { IfErr result (IsFormStopped names.new origin tables.old datum.now) }
     ensures names { Extends names.old names.new }
@@ -166,10 +165,8 @@ fn take_form(
     if nodes > MOST_NODES {
         return Err(too_large(datum, Reason::ProgramTooLarge));
     }
-    if has_too_many_cells(alloc, tables, mark)? {
-        return Err(too_large(datum, Reason::DispatchTooLarge));
-    }
-    Ok(nodes)
+    let cells = count_cells(alloc, tables, cells, datum)?;
+    Ok(Taken { nodes, cells })
 }
 
 impl Scope {
@@ -184,10 +181,12 @@ impl Scope {
         let classes = Classes::builtin(alloc, names)?;
         let nodes = class_list_nodes(classes.rows());
         let tables = first_tables(alloc, words, classes);
+        let cells = CellCount::new(alloc, tables.classes.rows());
         Ok(Scope {
             alloc,
             tables,
             nodes,
+            cells,
         })
     }
 
@@ -210,11 +209,15 @@ impl Scope {
             &mut self.tables,
             &mark,
             self.nodes,
+            &self.cells,
             datum,
             origin,
         ) {
-            Ok(nodes) => {
+            Ok(Taken { nodes, cells }) => {
                 self.nodes = nodes;
+                if let Some(cells) = cells {
+                    self.cells = cells;
+                }
                 Ok(())
             }
             Err(stop) => {

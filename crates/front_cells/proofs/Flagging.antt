@@ -1,0 +1,128 @@
+-- Flags of classes that are set and cleared, and the lists of those whose flags are set.
+use Rattle.std.proofs.Common.{◌≡◌, ℕ, zero, suc, ◌+◌, ◌<◌, ◌≤◌, ◌==◌, ◌⊎◌, ⊎_elim, Bool, true, false, not, ◌||◌, List, [], ◌∷◌, ◌++◌, length, map, filter, Some, slice_get, slice_set, if◌then◌else◌, get_or, drop, refl, ap, subst, sym, ◌∙◌, arith, append_assoc, append-nil}
+use Rattle.std.specs.Prelude.{slice_index_or}
+use Rattle.std.proofs.lemmas.Bool.{eqb-true}
+use Rattle.std.proofs.lemmas.Bool.Decides.{nat_tests}
+use Rattle.std.proofs.lemmas.List.{drop_all}
+use Rattle.base.specs.Names.{slice_get-push}
+use Rattle.base.specs.model.DataRest.{rest_at}
+use Rattle.lang_meaning.specs.declared.program.MethodRow.{MethodRow}
+use Rattle.lang_meaning.specs.Lookup.{is_in}
+use Rattle.front_cells.specs.Flags.{AreFlags, IsSet}
+
+pub flag_more : (flags : List Bool) → AreFlags [] flags → AreFlags [] (flags ++ false ∷ [])
+flag_more flags h class flag e =
+    ⊎_elim (λ old. h class flag old) (λ (p : (class ≡ length flags) × (false ≡ flag)). sym p.1) (slice_get-push flags false class flag e)
+
+-- the class of a method
+abbrev pub class_of : ℕ → MethodRow → ℕ
+class_of argument m = slice_index_or m.classes argument 0
+
+-- with those that are left, the flags say which class is in the list
+pub record AreFlagsBut (left all : List ℕ) (flags : List Bool) : Type 0 where
+  pub flagged : (class : ℕ) (flag : Bool) → slice_get flags class ≡ Some flag → (flag || is_in class left) ≡ is_in class all
+
+-- those that are left may have flags still, and no other class has
+pub record AreClearedBut (left : List ℕ) (flags : List Bool) : Type 0 where
+  pub cleared : (class : ℕ) (flag : Bool) → slice_get flags class ≡ Some flag → is_in class left ≡ false → flag ≡ false
+
+pub no_flag : (all : List ℕ) (flags : List Bool) → AreFlags [] flags → AreFlagsBut all all flags
+no_flag all flags h = record { flagged = λ class flag e. ap (λ b. b || is_in class all) (h class flag e) }
+
+or_false : (a : Bool) → (a || false) ≡ a
+or_false true = refl
+or_false false = refl
+
+or_shift : (a b c : Bool) → ((if b then true else a) || c) ≡ (a || (b || c))
+or_shift true true c = refl
+or_shift true false c = refl
+or_shift false true c = refl
+or_shift false false c = refl
+
+pub flag_set : (argument : ℕ) (ms : List MethodRow) (i : ℕ) (m : MethodRow) (all : List ℕ) (flags flags' : List Bool) → slice_get ms i ≡ Some m →
+    IsSet (class_of argument m) true flags flags' → AreFlagsBut (map (class_of argument) (drop i ms)) all flags → AreFlagsBut (map (class_of argument) (drop (i + 1) ms)) all flags'
+flag_set argument ms i m all flags flags' there set h = record {
+  flagged = λ class flag' e.
+      let from = set class flag' e in
+      let rest : List ℕ = map (class_of argument) (drop (i + 1) ms) in
+      ap (λ b. b || is_in class rest) from.1.1
+      ∙ (or_shift from.0 (class == class_of argument m) (is_in class rest)
+      ∙ (ap (λ ks. from.0 || is_in class (map (class_of argument) ks)) (sym (rest_at ms i m there)) ∙ h.flagged class from.0 from.1.0));
+}
+
+pub all_flags : (argument : ℕ) (ms : List MethodRow) (i : ℕ) (all : List ℕ) (flags : List Bool) → length ms ≤ i →
+    AreFlagsBut (map (class_of argument) (drop i ms)) all flags → AreFlags all flags
+all_flags argument ms i all flags past h class flag e =
+    sym (or_false flag) ∙ (ap (λ ks. flag || is_in class (map (class_of argument) ks)) (sym (drop_all i ms past)) ∙ h.flagged class flag e)
+
+pub flags_there : (all : List ℕ) (flags : List Bool) → AreFlags all flags → AreClearedBut all flags
+flags_there all flags h = record { cleared = λ class flag e none. h class flag e ∙ none }
+
+cleared_by : (b rest : Bool) (flag flag' : Bool) → flag' ≡ (if b then false else flag) → rest ≡ false → ((b || rest) ≡ false → flag ≡ false) → flag' ≡ false
+cleared_by true rest flag flag' e none h = e
+cleared_by false rest flag flag' e none h = e ∙ h none
+
+pub flag_cleared : (argument : ℕ) (ms : List MethodRow) (i : ℕ) (m : MethodRow) (flags flags' : List Bool) → slice_get ms i ≡ Some m →
+    IsSet (class_of argument m) false flags flags' → AreClearedBut (map (class_of argument) (drop i ms)) flags → AreClearedBut (map (class_of argument) (drop (i + 1) ms)) flags'
+flag_cleared argument ms i m flags flags' there set h = record {
+  cleared = λ class flag' e none.
+      let from = set class flag' e in
+      cleared_by (class == class_of argument m) (is_in class (map (class_of argument) (drop (i + 1) ms))) from.0 flag' from.1.1 none
+      (λ k. h.cleared class from.0 from.1.0 (ap (λ ks. is_in class (map (class_of argument) ks)) (rest_at ms i m there) ∙ k));
+}
+
+pub all_cleared : (argument : ℕ) (ms : List MethodRow) (i : ℕ) (flags : List Bool) → length ms ≤ i →
+    AreClearedBut (map (class_of argument) (drop i ms)) flags → AreFlags [] flags
+all_cleared argument ms i flags past h class flag e =
+    h.cleared class flag e (ap (λ ks. is_in class (map (class_of argument) ks)) (drop_all i ms past))
+
+-- ---- lists of those whose flags are set
+
+-- with those that are left, the ones of the list
+pub record IsCommonBut (flags : List Bool) (left list both : List ℕ) : Type 0 where
+  pub common : (column : List ℕ) → AreFlags column flags → both ++ filter (λ d. is_in d column) left ≡ filter (λ d. is_in d column) list
+
+pub none_common : (flags : List Bool) (list : List ℕ) → IsCommonBut flags list list []
+none_common flags list = record { common = λ column h. refl }
+
+kept_or_not : (p : ℕ → Bool) (b : Bool) (x : ℕ) (xs : List ℕ) → p x ≡ b → filter p (x ∷ xs) ≡ (if b then x ∷ filter p xs else filter p xs)
+kept_or_not p b x xs h = ap (λ v. if v then x ∷ filter p xs else filter p xs) h
+
+pub common_more : (flags : List Bool) (list : List ℕ) (i x : ℕ) (both : List ℕ) → slice_get list i ≡ Some x → slice_get flags x ≡ Some true →
+    IsCommonBut flags (drop i list) list both → IsCommonBut flags (drop (i + 1) list) list (both ++ x ∷ [])
+common_more flags list i x both there flag h = record {
+  common = λ column f.
+      let p : ℕ → Bool = λ d. is_in d column in
+      let rest : List ℕ = drop (i + 1) list in
+      append_assoc both (x ∷ []) (filter p rest)
+      ∙ (ap (λ ys. both ++ ys) (sym (kept_or_not p true x rest (sym (f x true flag))))
+      ∙ (ap (λ ys. both ++ filter p ys) (sym (rest_at list i x there)) ∙ h.common column f));
+}
+
+pub common_less : (flags : List Bool) (list : List ℕ) (i x : ℕ) (both : List ℕ) → slice_get list i ≡ Some x → slice_get flags x ≡ Some false →
+    IsCommonBut flags (drop i list) list both → IsCommonBut flags (drop (i + 1) list) list both
+common_less flags list i x both there flag h = record {
+  common = λ column f.
+      let p : ℕ → Bool = λ d. is_in d column in
+      let rest : List ℕ = drop (i + 1) list in
+      ap (λ ys. both ++ ys) (sym (kept_or_not p false x rest (sym (f x false flag))))
+      ∙ (ap (λ ys. both ++ filter p ys) (sym (rest_at list i x there)) ∙ h.common column f);
+}
+
+pub all_common : (flags : List Bool) (list : List ℕ) (i : ℕ) (both : List ℕ) → length list ≤ i → IsCommonBut flags (drop i list) list both →
+    (column : List ℕ) → AreFlags column flags → both ≡ filter (λ d. is_in d column) list
+all_common flags list i both past h column f =
+    let p : ℕ → Bool = λ d. is_in d column in
+    sym (append-nil both) ∙ (ap (λ ys. both ++ filter p ys) (sym (drop_all i list past)) ∙ h.common column f)
+
+-- an item more, where its flag is set
+pub common_step : (flags : List Bool) (list : List ℕ) (i x : ℕ) (flag : Bool) (both both' : List ℕ) → slice_get list i ≡ Some x → slice_get flags x ≡ Some flag →
+    both' ≡ (if flag then both ++ x ∷ [] else both) → IsCommonBut flags (drop i list) list both → IsCommonBut flags (drop (i + 1) list) list both'
+common_step flags list i x true both both' there flag e h = subst (λ (ks : List ℕ). IsCommonBut flags (drop (i + 1) list) list ks) (sym e) (common_more flags list i x both there flag h)
+common_step flags list i x false both both' there flag e h = subst (λ (ks : List ℕ). IsCommonBut flags (drop (i + 1) list) list ks) (sym e) (common_less flags list i x both there flag h)
+
+-- the first of a list is not there, and the others are the other list
+pub first_left_out : (flags : List Bool) (x : ℕ) (list other : List ℕ) → ((column : List ℕ) → AreFlags column flags → is_in x column ≡ false) → list ≡ other →
+    (column : List ℕ) → AreFlags column flags → filter (λ d. is_in d column) (x ∷ list) ≡ filter (λ d. is_in d column) other
+first_left_out flags x list other unset same column f =
+    kept_or_not (λ d. is_in d column) false x list (unset column f) ∙ ap (filter (λ d. is_in d column)) same

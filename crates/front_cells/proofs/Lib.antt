@@ -1,0 +1,4 @@
+pub mod Flagging
+pub mod Counting
+pub mod Fewer
+pub mod Tupling
