@@ -1,9 +1,10 @@
 -- The cells of a generic function where only the first classes are there: with a class more that adds no group.
-use Rattle.std.proofs.Common.{◌≡◌, ℕ, zero, suc, ◌+◌, ◌*◌, ◌<◌, ◌≤◌, ◌==◌, nat_lt, Bool, true, false, ◌&&◌, List, [], ◌∷◌, ◌++◌, length, map, filter, Option, Some, take, slice_get, if◌then◌else◌, All, refl, ap, sym, ◌∙◌, arith, add-one}
+use Rattle.std.proofs.Common.{◌≡◌, ℕ, zero, suc, ◌+◌, ◌*◌, ◌<◌, ◌≤◌, ◌==◌, nat_lt, Bool, true, false, ◌&&◌, List, [], ◌∷◌, ◌++◌, length, map, filter, Option, Some, take, slice_get, if◌then◌else◌, min, refl, ap, subst, sym, ◌∙◌, arith, add-one}
 use Rattle.std.specs.Prelude.{flat_map}
 use Rattle.std.specs.Str.{bytes_eq}
 use Rattle.std.specs.List.{range_with_len, list_any, sum_by, position_or_len}
-use Rattle.std.proofs.lemmas.List.Elements.{All-append}
+use Rattle.std.proofs.lemmas.Bool.{eqb-true}
+use Rattle.std.proofs.lemmas.Bool.Decides.{nat_tests}
 use Rattle.std.proofs.lemmas.List.Sums.{sum_by-cons}
 use Rattle.std.proofs.Math.Nat.{add-mul}
 use Rattle.lang_meaning.specs.declared.program.ClassRow.{ClassRow}
@@ -26,7 +27,8 @@ pub record AreAlike (n : ℕ) (P Q : ProgramRows) : Type 0 where
   pub alike : (c : ℕ) → c < n → precedence P c ≡ precedence Q c
 
 abbrev AreFirst : ℕ → List ℕ → Type 0
-AreFirst n cs = All (λ c. c < n) cs
+AreFirst n [] = Unit {0}
+AreFirst n (c ∷ cs) = (c < n) × AreFirst n cs
 
 applies_alike : (n : ℕ) (P Q : ProgramRows) → AreAlike n P Q → (cs ms : List ℕ) → AreFirst n cs → applies P cs ms ≡ applies Q cs ms
 applies_alike n P Q same [] [] first = refl
@@ -92,13 +94,14 @@ range_first : (n a k : ℕ) → a + k ≤ n → AreFirst n (range_with_len a k)
 range_first n a zero h = tt
 range_first n a (suc k) h = (omega (arith, h), range_first n (a + 1) k (omega (arith, h)))
 
+front_first : (n : ℕ) (b : Bool) (c : ℕ) (cs : List ℕ) → c < n → AreFirst n cs → AreFirst n ((if b then [] else c ∷ []) ++ cs)
+front_first n true c cs h first = first
+front_first n false c cs h first = (h, first)
+
 one_first : (n : ℕ) (f : ℕ → List ℕ) (seen cs : List ℕ) → AreFirst n cs → AreFirst n (one_of_each f seen cs)
 one_first n f seen [] first = tt
-one_first n f seen (c ∷ cs) first = front (list_any (λ d. bytes_eq (f c) (f d)) seen)
-  where
-    front : (b : Bool) → AreFirst n ((if b then [] else c ∷ []) ++ one_of_each f (c ∷ seen) cs)
-    front true = one_first n f (c ∷ seen) cs first.1
-    front false = (first.0, one_first n f (c ∷ seen) cs first.1)
+one_first n f seen (c ∷ cs) first =
+    front_first n (list_any (λ d. bytes_eq (f c) (f d)) seen) c (one_of_each f (c ∷ seen) cs) first.0 (one_first n f (c ∷ seen) cs first.1)
 
 -- the groups of the first classes, at each argument
 abbrev groups_at : List ClassRow → GenericRow → ℕ → ℕ → List ℕ
@@ -114,16 +117,21 @@ cells_to rows g n = n * specialised g + sum_by (tuple_cells (with_classes rows) 
 
 -- tuples of first classes
 abbrev AreTuplesOfFirst : ℕ → List (List ℕ) → Type 0
-AreTuplesOfFirst n ts = All (AreFirst n) ts
+AreTuplesOfFirst n [] = Unit {0}
+AreTuplesOfFirst n (t ∷ ts) = AreFirst n t × AreTuplesOfFirst n ts
+
+both_first : (n : ℕ) (ts us : List (List ℕ)) → AreTuplesOfFirst n ts → AreTuplesOfFirst n us → AreTuplesOfFirst n (ts ++ us)
+both_first n [] us h k = k
+both_first n (t ∷ ts) us h k = (h.0, both_first n ts us h.1 k)
+
+each_first : (n c : ℕ) (ts : List (List ℕ)) → c < n → AreTuplesOfFirst n ts → AreTuplesOfFirst n (map (λ t. c ∷ t) ts)
+each_first n c [] b h = tt
+each_first n c (t ∷ ts) b h = ((b, h.0), each_first n c ts b h.1)
 
 fan_first : (n : ℕ) (cs : List ℕ) (ts : List (List ℕ)) → AreFirst n cs → AreTuplesOfFirst n ts → AreTuplesOfFirst n (flat_map (λ c. map (λ t. c ∷ t) ts) cs)
 fan_first n [] ts first h = tt
 fan_first n (c ∷ cs) ts first h =
-    All-append (AreFirst n) (map (λ t. c ∷ t) ts) (flat_map (λ c. map (λ t. c ∷ t) ts) cs) (each ts h) (fan_first n cs ts first.1 h)
-  where
-    each : (us : List (List ℕ)) → AreTuplesOfFirst n us → AreTuplesOfFirst n (map (λ t. c ∷ t) us)
-    each [] k = tt
-    each (u ∷ us) k = ((first.0, k.0), each us k.1)
+    both_first n (map (λ t. c ∷ t) ts) (flat_map (λ c. map (λ t. c ∷ t) ts) cs) (each_first n c ts first.0 h) (fan_first n cs ts first.1 h)
 
 tuples_first : (n : ℕ) (f : ℕ → List ℕ) → ((i : ℕ) → AreFirst n (f i)) → (is : List ℕ) → AreTuplesOfFirst n (tuples (map f is))
 tuples_first n f h [] = (tt, tt)
@@ -188,3 +196,15 @@ nothing_added rows g class h =
         let here : groups_at rows g (class + 1) a ≡ groups_at rows g class a = copy_more rows (argument_classes g a) class (h a (omega (arith, b))) in
         let rest : map (groups_at rows g (class + 1)) (range_with_len (a + 1) k) ≡ map (groups_at rows g class) (range_with_len (a + 1) k) = maps (a + 1) k (omega (arith, b)) in
         cc
+
+-- an argument more at which a class is a copy
+pub nothing_more : (rows : List ClassRow) (g : GenericRow) (class argument : ℕ) → ((i : ℕ) → i < argument → IsCopy rows (argument_classes g i) class) →
+    IsCopy rows (argument_classes g argument) class → (i : ℕ) → i < argument + 1 → IsCopy rows (argument_classes g i) class
+nothing_more rows g class argument h copy i b = elim (i == argument) as (λ v. (i == argument) ≡ v → IsCopy rows (argument_classes g i) class) [
+  | true ↦ λ e. subst (λ (k : ℕ). IsCopy rows (argument_classes g k) class) (sym (eqb-true i argument e)) copy
+  | false ↦ λ e. let other : i < argument = grind (arith, nat_tests) in h i other
+] refl
+
+-- where all classes are there
+pub all_cells_there : (rows : List ClassRow) (g : GenericRow) (n most : ℕ) → n ≡ length rows → min (cells_to rows g n) 262145 ≤ most → min (generic_cells (with_classes rows) g) 262145 ≤ most
+all_cells_there rows g n most e h = subst (λ (k : ℕ). min (cells_to rows g k) 262145 ≤ most) e h

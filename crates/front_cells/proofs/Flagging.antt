@@ -1,9 +1,10 @@
 -- Flags of classes that are set and cleared, and the lists of those whose flags are set.
-use Rattle.std.proofs.Common.{◌≡◌, ℕ, zero, suc, ◌+◌, ◌<◌, ◌≤◌, ◌==◌, ◌⊎◌, ⊎_elim, Bool, true, false, not, ◌||◌, List, [], ◌∷◌, ◌++◌, length, map, filter, Some, slice_get, slice_set, if◌then◌else◌, get_or, drop, refl, ap, subst, sym, ◌∙◌, arith, append_assoc, append-nil}
+use Rattle.std.proofs.Common.{◌≡◌, ℕ, zero, suc, ◌+◌, ◌-◌, ◌<◌, ◌≤◌, ◌==◌, ◌⊎◌, ⊎_elim, Bool, true, false, not, ◌||◌, List, [], ◌∷◌, ◌++◌, length, map, filter, Some, slice_get, slice_set, if◌then◌else◌, get_or, take, drop, refl, ap, subst, sym, ◌∙◌, arith, append_assoc, append-nil}
 use Rattle.std.specs.Prelude.{slice_index_or}
 use Rattle.std.proofs.lemmas.Bool.{eqb-true}
 use Rattle.std.proofs.lemmas.Bool.Decides.{nat_tests}
 use Rattle.std.proofs.lemmas.List.{drop_all}
+use Rattle.std.proofs.lemmas.Option.{slice_get-get_or}
 use Rattle.base.specs.Names.{slice_get-push}
 use Rattle.base.specs.model.DataRest.{rest_at}
 use Rattle.lang_meaning.specs.declared.program.MethodRow.{MethodRow}
@@ -13,6 +14,14 @@ use Rattle.front_cells.specs.Flags.{AreFlags, IsSet}
 pub flag_more : (flags : List Bool) → AreFlags [] flags → AreFlags [] (flags ++ false ∷ [])
 flag_more flags h class flag e =
     ⊎_elim (λ old. h class flag old) (λ (p : (class ≡ length flags) × (false ≡ flag)). sym p.1) (slice_get-push flags false class flag e)
+
+-- an item of a list that is another one
+pub item_at : {X : Type 0} (xs ys : List X) (i : ℕ) (x : X) → xs ≡ ys → i < length xs → x ≡ get_or xs i x → slice_get ys i ≡ Some x
+item_at xs ys i x e h k = rw (← e) (slice_get-get_or xs i x h ∙ ap Some (sym k))
+
+pub not_false : (b : Bool) → not b ≡ false → b ≡ true
+not_false true e = refl
+not_false false e = absurd (cc e)
 
 -- the class of a method
 abbrev pub class_of : ℕ → MethodRow → ℕ
@@ -126,3 +135,17 @@ pub first_left_out : (flags : List Bool) (x : ℕ) (list other : List ℕ) → (
     (column : List ℕ) → AreFlags column flags → filter (λ d. is_in d column) (x ∷ list) ≡ filter (λ d. is_in d column) other
 first_left_out flags x list other unset same column f =
     kept_or_not (λ d. is_in d column) false x list (unset column f) ∙ ap (filter (λ d. is_in d column)) same
+
+pub left_out : (flags : List Bool) (list other : List ℕ) → 1 ≤ length list → ((column : List ℕ) → AreFlags column flags → is_in (get_or list 0 0) column ≡ false) →
+    drop 1 list ≡ other → (column : List ℕ) → AreFlags column flags → filter (λ d. is_in d column) list ≡ filter (λ d. is_in d column) other
+left_out flags [] other some unset same column f = absurd (omega (arith, some))
+left_out flags (x ∷ list) other some unset same column f = first_left_out flags x list other unset same column f
+
+all_taken : (xs : List ℕ) → take (length xs) xs ≡ xs
+all_taken [] = refl
+all_taken (x ∷ xs) = ap (λ ys. x ∷ ys) (all_taken xs)
+
+-- the rest of a list behind its first one
+pub rest_whole : (xs : List ℕ) → 1 ≤ length xs → take (length xs - 1) (drop 1 xs) ≡ drop 1 xs
+rest_whole [] h = absurd (omega (arith, h))
+rest_whole (x ∷ xs) h = let left : length (x ∷ xs) - 1 ≡ length xs = omega arith in ap (λ n. take n xs) left ∙ all_taken xs

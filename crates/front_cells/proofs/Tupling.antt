@@ -1,5 +1,5 @@
 -- No fewer than the cells of dispatch tables: tuples of groups, and methods that apply to them.
-use Rattle.std.proofs.Common.{◌≡◌, ℕ, zero, suc, ◌+◌, ◌-◌, ◌*◌, ◌==◌, ◌<◌, ◌≤◌, Bool, true, false, not, ◌&&◌, ◌||◌, cond, List, [], ◌∷◌, ◌++◌, length, map, filter, Option, Some, None, IfSome, slice_get, take, drop, if◌then◌else◌, refl, ap, subst, sym, ◌∙◌, arith, length-append}
+use Rattle.std.proofs.Common.{◌≡◌, ℕ, zero, suc, ◌+◌, ◌-◌, ◌*◌, ◌==◌, ◌<◌, ◌≤◌, Bool, true, false, not, ◌&&◌, ◌||◌, cond, List, [], ◌∷◌, ◌++◌, length, map, filter, Option, Some, None, IfSome, slice_get, take, drop, if◌then◌else◌, refl, ap, subst, sym, ◌∙◌, ⊎_elim, ◌⊎◌, arith, add-one, length-append}
 use Rattle.std.specs.List.{range_with_len, list_any, sum_by, flat_map}
 use Rattle.std.specs.Prelude.{slice_index_or}
 use Rattle.std.proofs.lemmas.List.{length-map, length-reverse, drop_all}
@@ -15,11 +15,12 @@ use Rattle.lang_meaning.specs.declared.program.Qualifier.TheVariants.{Primary, A
 use Rattle.lang_meaning.specs.Cells.{argument_classes, is_specialised, groups, tuples, chain_length, tuple_cells, generic_cells}
 use Rattle.lang_meaning.specs.Classes.{applies, more_specific, among, ordered, applicable, is_qualifier, of_kind, chain_of, chain, precedence}
 use Rattle.lang_meaning.specs.Lookup.{is_in}
-use Rattle.base.specs.bridge.Counted.{sum_alike}
+use Rattle.base.specs.Names.{slice_get-push}
+use Rattle.base.specs.bridge.Counted.{sum_alike, sum_left, no_sum_left}
 use Rattle.base.specs.model.DataRest.{rest_at}
 use Rattle.lang_dispatch.specs.OfClasses.{with_classes}
 use Rattle.front_cells.specs.Groups.{one_if, below, AreGroupCounts}
-use Rattle.front_cells.specs.Tuples.{is_special_at, tuples_from, places, AreTupleCounts, IsScaledBy, AreScaled, AreOnes, chained}
+use Rattle.front_cells.specs.Tuples.{is_special_at, tuples_from, places, AreTupleCounts, IsScaled, IsScaledBy, AreScaled, AreOnes, chained}
 use Rattle.front_cells.specs.declared.bounds.TupleCounts.{TupleCounts}
 use Rattle.front_cells.specs.declared.groups.GroupCounts.{GroupCounts}
 
@@ -136,7 +137,7 @@ past (x ∷ xs) (suc i) h = past xs i h
 past_more : {X : Type 0} (xs : List X) (i : ℕ) → slice_get xs i ≡ None → slice_get xs (i + 1) ≡ None
 past_more [] i h = refl
 past_more (x ∷ xs) zero h = absurd (cc h)
-past_more (x ∷ xs) (suc i) h = past_more xs i h
+past_more (x ∷ xs) (suc i) h = rw (add-one (suc i)) (rw (add-one i) at (past_more xs i h))
 
 place_more : (rows : List ClassRow) (g : GenericRow) (k left all count more : ℕ) (below_classes classes : List ℕ) (class : Option ℕ) →
     ((c n : ℕ) → slice_get below_classes c ≡ Some n → below rows c (groups (with_classes rows) g k) ≤ n) → slice_get classes k ≡ class → IsScaledBy class below_classes count more →
@@ -343,22 +344,25 @@ others_none : (a b : Bool) → (a || b) ≡ false → b ≡ false
 others_none true b h = absurd (cc h)
 others_none false b h = h
 
+none_kept_or_not : (p : MethodRow → Bool) (m : MethodRow) (ms : List MethodRow) (b : Bool) → p m ≡ false → list_any p ms ≡ false →
+    list_any p (if b then m ∷ ms else ms) ≡ false
+none_kept_or_not p m ms true h k = or_none (p m) (list_any p ms) h k
+none_kept_or_not p m ms false h k = k
+
 none_filtered : (p q : MethodRow → Bool) (ms : List MethodRow) → list_any p ms ≡ false → list_any p (filter q ms) ≡ false
 none_filtered p q [] h = refl
-none_filtered p q (m ∷ ms) h = by (q m)
-  where
-    by : (b : Bool) → list_any p (if b then m ∷ filter q ms else filter q ms) ≡ false
-    by true = or_none (p m) (list_any p (filter q ms)) (first_none (p m) (list_any p ms) h) (none_filtered p q ms (others_none (p m) (list_any p ms) h))
-    by false = none_filtered p q ms (others_none (p m) (list_any p ms) h)
+none_filtered p q (m ∷ ms) h =
+    none_kept_or_not p m (filter q ms) (q m) (first_none (p m) (list_any p ms) h) (none_filtered p q ms (others_none (p m) (list_any p ms) h))
+
+none_in_either : (p : MethodRow → Bool) (ms ns : List MethodRow) (b : Bool) → list_any p ms ≡ false → list_any p ns ≡ false → list_any p (if b then ms else ns) ≡ false
+none_in_either p ms ns true h k = h
+none_in_either p ms ns false h k = k
 
 none_among : (p : MethodRow → Bool) (b : MethodRow → MethodRow → Bool) (m : MethodRow) (ms : List MethodRow) → p m ≡ false → list_any p ms ≡ false → list_any p (among b m ms) ≡ false
 none_among p b m [] h k = or_none (p m) false h refl
-none_among p b m (n ∷ ns) h k = by (b m n)
-  where
-    by : (v : Bool) → list_any p (if v then m ∷ n ∷ ns else n ∷ among b m ns) ≡ false
-    by true = or_none (p m) (list_any p (n ∷ ns)) h k
-    by false =
-        or_none (p n) (list_any p (among b m ns)) (first_none (p n) (list_any p ns) k) (none_among p b m ns h (others_none (p n) (list_any p ns) k))
+none_among p b m (n ∷ ns) h k =
+    none_in_either p (m ∷ n ∷ ns) (n ∷ among b m ns) (b m n) (or_none (p m) (list_any p (n ∷ ns)) h k)
+    (or_none (p n) (list_any p (among b m ns)) (first_none (p n) (list_any p ns) k) (none_among p b m ns h (others_none (p n) (list_any p ns) k)))
 
 none_ordered : (p : MethodRow → Bool) (b : MethodRow → MethodRow → Bool) (ms : List MethodRow) → list_any p ms ≡ false → list_any p (ordered b ms) ≡ false
 none_ordered p b [] h = refl
@@ -395,3 +399,56 @@ generic_few rows g maps all chains m t c =
 pub some_as : (r : Option ℕ) (P Q : ℕ → Type 0) → ((n : ℕ) → P n → Q n) → IfSome r P → IfSome r Q
 some_as None P Q f h = tt
 some_as (Some n) P Q f h = f n h
+
+-- ---- methods one after another
+
+pub record AreScaledTo (at : ℕ) (ms : List MethodRow) (argument : ℕ) (bs counts mores : List ℕ) : Type 0 where
+  pub paired : length mores ≡ at
+  pub each : (i : ℕ) (m : MethodRow) (more : ℕ) → slice_get ms i ≡ Some m → slice_get mores i ≡ Some more →
+      (count : ℕ) × ((slice_get counts i ≡ Some count) × IsScaled m.classes argument bs count more)
+
+pub none_scaled : (ms : List MethodRow) (argument : ℕ) (bs counts : List ℕ) → AreScaledTo 0 ms argument bs counts []
+none_scaled ms argument bs counts = record { paired = refl; each = λ i m more a b. absurd (cc b) }
+
+same_method : (ms : List MethodRow) (i j : ℕ) (m n : MethodRow) → slice_get ms i ≡ Some m → slice_get ms j ≡ Some n → i ≡ j → m ≡ n
+same_method ms i j m n a b e = let same : Some m ≡ Some n = sym a ∙ (ap (slice_get ms) e ∙ b) in cc
+
+pub one_scaled : (at : ℕ) (ms : List MethodRow) (argument : ℕ) (bs counts mores : List ℕ) (m : MethodRow) (count next : ℕ) → slice_get ms at ≡ Some m →
+    slice_get counts at ≡ Some count → IsScaled m.classes argument bs count next → AreScaledTo at ms argument bs counts mores →
+    AreScaledTo (at + 1) ms argument bs counts (mores ++ next ∷ [])
+one_scaled at ms argument bs counts mores m count next there counted scaled h = record {
+  paired = omega (arith, length-append mores (next ∷ []), h.paired);
+  each = λ i n more a b.
+      ⊎_elim
+      (λ old. h.each i n more a old)
+      (λ (p : (i ≡ length mores) × (next ≡ more)).
+      let place : at ≡ i = sym (p.0 ∙ h.paired) in
+      let same : m ≡ n = same_method ms at i m n there a place in
+      let here : IsScaled n.classes argument bs count more = subst (λ (n : MethodRow). IsScaled n.classes argument bs count more) same (subst (λ (x : ℕ). IsScaled m.classes argument bs count x) p.1 scaled) in
+      (count, (ap (slice_get counts) (sym place) ∙ counted, here)))
+      (slice_get-push mores next i more b);
+}
+
+pub all_scaled : (at : ℕ) (ms : List MethodRow) (argument : ℕ) (bs counts mores : List ℕ) → length ms ≤ at → at ≤ length ms →
+    AreScaledTo at ms argument bs counts mores → AreScaled ms argument bs counts mores
+all_scaled at ms argument bs counts mores past within h = record { paired = omega (arith, h.paired); each = h.each }
+
+pub no_ones : AreOnes 0 []
+no_ones = record { paired = refl; each = λ i one h. absurd (cc h) }
+
+pub ones_more : (at : ℕ) (ones : List ℕ) → AreOnes at ones → AreOnes (at + 1) (ones ++ 1 ∷ [])
+ones_more at ones h = record {
+  paired = omega (arith, length-append ones (1 ∷ []), h.paired);
+  each = λ i one e. ⊎_elim (λ old. h.each i one old) (λ (p : (i ≡ length ones) × (1 ≡ one)). sym p.1) (slice_get-push ones 1 i one e);
+}
+
+-- numbers added one after another
+
+pub none_added : (ks : List ℕ) → sum_by (λ k. k) ks ≤ 0 + sum_by (λ k. k) (drop 0 ks)
+none_added ks = omega arith
+
+pub one_added : (ks : List ℕ) (i k sum next all : ℕ) → slice_get ks i ≡ Some k → next ≡ sum + k → all ≤ sum + sum_by (λ k. k) (drop i ks) → all ≤ next + sum_by (λ k. k) (drop (i + 1) ks)
+one_added ks i k sum next all there same h = omega (arith, h, same, sum_left (λ k. k) ks i k there)
+
+pub all_added : (ks : List ℕ) (i sum all : ℕ) → length ks ≤ i → all ≤ sum + sum_by (λ k. k) (drop i ks) → all ≤ sum
+all_added ks i sum all past h = omega (arith, h, no_sum_left (λ k. k) ks i past)

@@ -51,6 +51,7 @@ pub(crate) fn specialised_arguments(generic: &GenericRow) -> u64
 }
 
 // One for each method.
+#[tactic(auto, using(crate::proofs::Tupling::no_ones, crate::proofs::Tupling::ones_more))]
 fn ones(alloc: Global, count: usize) -> Result<MethodCounts, NoMemory>
     ensures { IfOk result (λ counts. AreOnes count counts) }
 {

@@ -216,7 +216,14 @@ fn sharpened(
     ensures { IfOk result (λ recount. IsRecount classes.now generics.now count.now recount) }
 {
     let sharp = sharpen_all(alloc, classes, generics, found)?;
-    if sharp.total > MOST_CELLS && cells(alloc, generics, classes)? > MOST_CELLS {
+    if sharp.total <= MOST_CELLS {
+        return Ok(Recount::New(CellCount {
+            classes: classes.len(),
+            generics: sharp.generics,
+        }));
+    }
+    let all = cells(alloc, generics, classes)?;
+    if all > MOST_CELLS {
         return Ok(Recount::TooMany);
     }
     Ok(Recount::New(CellCount {

@@ -81,34 +81,3 @@ there_cut (g ∷ gs) (h ∷ hs) a =
 
 pub there_enough : (gs hs : List GenericRow) → AreThere gs hs → length gs ≤ length hs
 there_enough gs hs a = omega (arith, reach_enough (method_counts gs) hs (there_reach gs hs a), length-map gs (λ g. length g.methods))
-
--- where there are no more of them, and no more methods, they are as they were
-
-same_list : {X : Type 0} (xs ys : List X) → StandsFirst xs ys → length ys ≡ length xs → ys ≡ xs
-same_list [] [] h e = refl
-same_list [] (y ∷ ys) h e = absurd (omega (arith, e))
-same_list (x ∷ xs) [] h e = absurd (omega (arith, e))
-same_list (x ∷ xs) (y ∷ ys) h e =
-    let front : y ≡ x = cc h in
-    let behind : take (length xs) ys ≡ xs = cc h in
-    let rest : ys ≡ xs = same_list xs ys behind (omega (arith, e)) in
-    cc
-
-pub same_rows : {X : Type 0} (xs ys : List X) → StandsFirst xs ys → length ys ≡ length xs → ys ≡ xs
-same_rows xs ys h e = same_list xs ys h e
-
-same_generic : (g h : GenericRow) → HasMore g h → length h.methods ≡ length g.methods → h ≡ g
-same_generic g h a e =
-    let methods : h.methods ≡ g.methods = same_list g.methods h.methods a.3 e in
-    rw (a.0, a.1, a.2, methods) refl
-
-pub same_generics : (gs hs : List GenericRow) → AreThere gs hs → method_counts hs ≡ method_counts gs → hs ≡ gs
-same_generics [] [] a e = refl
-same_generics [] (h ∷ hs) a e = absurd (cc e)
-same_generics (g ∷ gs) [] a e = absurd a
-same_generics (g ∷ gs) (h ∷ hs) a e =
-    let count : length h.methods ≡ length g.methods = cc e in
-    let counts : method_counts hs ≡ method_counts gs = cc e in
-    let one : h ≡ g = same_generic g h a.0 count in
-    let rest : hs ≡ gs = same_generics gs hs a.1 counts in
-    cc
