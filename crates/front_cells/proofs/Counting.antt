@@ -1,7 +1,7 @@
 -- Groups of classes, one class after another: what was counted so far.
-use Rattle.std.proofs.Common.{◌≡◌, ℕ, zero, suc, ◌+◌, ◌<◌, ◌≤◌, ◌==◌, Bool, true, false, not, ◌||◌, List, [], ◌∷◌, ◌++◌, length, Some, slice_get, if◌then◌else◌, get_or, drop, refl, ap, subst, sym, ◌∙◌, arith, add-one, append_assoc, append-nil, length-append}
+use Rattle.std.proofs.Common.{◌≡◌, ℕ, zero, suc, ◌+◌, ◌<◌, ◌≤◌, ◌==◌, Bool, true, false, ◌||◌, List, [], ◌∷◌, ◌++◌, length, Some, slice_get, if◌then◌else◌, get_or, drop, refl, ap, subst, sym, ◌∙◌, arith, add-one, append_assoc, append-nil, length-append}
 use Rattle.std.specs.Str.{bytes_eq}
-use Rattle.std.specs.List.{range_with_len, list_any, sum_by}
+use Rattle.std.specs.List.{range_with_len, list_any}
 use Rattle.std.proofs.lemmas.Bool.Decides.{nat_tests}
 use Rattle.std.proofs.lemmas.Bool.{eqb-true}
 use Rattle.std.proofs.lemmas.Slice.Eq.{bytes_eq-Decides}
@@ -14,9 +14,8 @@ use Rattle.lang_meaning.specs.Lookup.{is_in}
 use Rattle.lang_meaning.specs.Classes.{precedence}
 use Rattle.lang_meaning.specs.Cells.{group_of, one_of_each}
 use Rattle.lang_dispatch.specs.OfClasses.{with_classes}
-use Rattle.front_cells.specs.Flags.{AreFlags}
 use Rattle.front_cells.specs.Copies.{IsCopy}
-use Rattle.front_cells.specs.Groups.{one_if, groups_to, below, AreCounted, AreGroupCounts, AreRaised, IsRaised, IsGroupMore}
+use Rattle.front_cells.specs.Groups.{one_if, groups_to, below, AreCounted, AreRaised, IsRaised, IsGroupMore}
 use Rattle.front_cells.specs.declared.groups.GroupCounts.{GroupCounts}
 
 -- ---- classes that are raised

@@ -1,8 +1,7 @@
 -- Counts of generic functions, one after another, and of tables that have grown.
-use Rattle.std.proofs.Common.{◌≡◌, ℕ, zero, suc, ◌+◌, ◌<◌, ◌≤◌, ◌⊎◌, ⊎_elim, min, List, [], ◌∷◌, ◌++◌, length, Option, Some, None, take, drop, slice_get, refl, ap, subst, sym, ◌∙◌, arith, length-append}
+use Rattle.std.proofs.Common.{◌≡◌, ℕ, zero, suc, ◌+◌, ◌≤◌, ⊎_elim, min, List, [], ◌∷◌, ◌++◌, length, Option, Some, None, take, drop, slice_get, refl, ap, subst, sym, ◌∙◌, arith, length-append}
 use Rattle.std.specs.List.{sum_by}
-use Rattle.std.proofs.lemmas.List.{length-take, drop_all}
-use Rattle.std.proofs.lemmas.List.Sums.{sum_by-cons}
+use Rattle.std.proofs.lemmas.List.{length-take}
 use Rattle.std.proofs.lemmas.Option.{slice_get_within}
 use Rattle.base.specs.Names.{slice_get-push}
 use Rattle.base.specs.bridge.Counted.{sum_left, no_sum_left}
@@ -129,5 +128,6 @@ current_count rows gs count was now =
     counted_at i g h None o a b =
         absurd (omega (arith, slice_get_within was.generics_then i g a, was.counted.paired, slice_get_none count.generics i o))
     counted_at i g h (Some k) o a b = sym (now.methods i k h o b) ∙ (was.counted.each i k g o a).methods
+
     methods : (i : ℕ) (g h : GenericRow) → slice_get was.generics_then i ≡ Some g → slice_get gs i ≡ Some h → length h.methods ≡ length g.methods
     methods i g h a b = counted_at i g h (slice_get count.generics i) refl a b

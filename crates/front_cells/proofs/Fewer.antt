@@ -1,5 +1,5 @@
 -- The cells of a generic function where only the first classes are there: with a class more that adds no group.
-use Rattle.std.proofs.Common.{◌≡◌, ℕ, zero, suc, ◌+◌, ◌*◌, ◌<◌, ◌≤◌, ◌==◌, nat_lt, Bool, true, false, ◌&&◌, List, [], ◌∷◌, ◌++◌, length, map, filter, Option, Some, take, slice_get, if◌then◌else◌, min, refl, ap, subst, sym, ◌∙◌, arith, add-one}
+use Rattle.std.proofs.Common.{◌≡◌, ℕ, zero, suc, ◌+◌, ◌*◌, ◌<◌, ◌≤◌, ◌==◌, nat_lt, Bool, true, false, ◌&&◌, List, [], ◌∷◌, ◌++◌, length, map, filter, take, slice_get, if◌then◌else◌, min, refl, ap, subst, sym, ◌∙◌, arith}
 use Rattle.std.specs.Prelude.{flat_map}
 use Rattle.std.specs.Str.{bytes_eq}
 use Rattle.std.specs.List.{range_with_len, list_any, sum_by, position_or_len}
@@ -13,8 +13,8 @@ use Rattle.lang_meaning.specs.declared.program.MethodRow.{MethodRow}
 use Rattle.lang_meaning.specs.declared.program.ProgramRows.{ProgramRows}
 use Rattle.lang_meaning.specs.declared.program.Qualifier.TheVariants.{Primary}
 use Rattle.lang_meaning.specs.Lookup.{is_in}
-use Rattle.lang_meaning.specs.Classes.{precedence, precedence_of, applies, more_specific, among, ordered, applicable, of_kind, chain_of, chain}
-use Rattle.lang_meaning.specs.Cells.{argument_classes, group_of, one_of_each, groups, tuples, chain_length, tuple_cells, generic_cells, is_specialised}
+use Rattle.lang_meaning.specs.Classes.{precedence, precedence_of, applies, more_specific, among, ordered, applicable, of_kind, chain_of}
+use Rattle.lang_meaning.specs.Cells.{argument_classes, group_of, one_of_each, groups, tuples, chain_length, tuple_cells, generic_cells}
 use Rattle.lang_dispatch.specs.OfClasses.{with_classes}
 use Rattle.front_cells.specs.Copies.{IsCopy, AddsNothing}
 use Rattle.front_cells.specs.Groups.{groups_to}

@@ -1,10 +1,9 @@
 -- No fewer than the cells of dispatch tables: tuples of groups, and methods that apply to them.
-use Rattle.std.proofs.Common.{◌≡◌, ℕ, zero, suc, ◌+◌, ◌-◌, ◌*◌, ◌==◌, ◌<◌, ◌≤◌, Bool, true, false, not, ◌&&◌, ◌||◌, cond, List, [], ◌∷◌, ◌++◌, length, map, filter, Option, Some, None, IfSome, slice_get, take, drop, if◌then◌else◌, refl, ap, subst, sym, ◌∙◌, ⊎_elim, ◌⊎◌, arith, add-one, length-append}
+use Rattle.std.proofs.Common.{◌≡◌, ℕ, zero, suc, ◌+◌, ◌-◌, ◌*◌, ◌==◌, ◌<◌, ◌≤◌, Bool, true, false, not, ◌&&◌, ◌||◌, cond, List, [], ◌∷◌, ◌++◌, length, map, filter, Option, Some, None, IfSome, slice_get, drop, if◌then◌else◌, refl, ap, subst, sym, ◌∙◌, ⊎_elim, arith, add-one, length-append}
 use Rattle.std.specs.List.{range_with_len, list_any, sum_by, flat_map}
 use Rattle.std.specs.Prelude.{slice_index_or}
-use Rattle.std.proofs.lemmas.List.{length-map, length-reverse, drop_all}
+use Rattle.std.proofs.lemmas.List.{length-map, length-reverse}
 use Rattle.std.proofs.lemmas.List.Sums.{sum_by-append, sum_by-cons}
-use Rattle.std.proofs.lemmas.Option.{slice_get-get_or}
 use Rattle.std.proofs.Math.Nat.{mul_assoc, mul_comm, add-mul, mul-le-mul_left, mul-le-mul_right}
 use Rattle.lang_meaning.specs.declared.program.ClassRow.{ClassRow}
 use Rattle.lang_meaning.specs.declared.program.GenericRow.{GenericRow}
@@ -12,7 +11,7 @@ use Rattle.lang_meaning.specs.declared.program.MethodRow.{MethodRow}
 use Rattle.lang_meaning.specs.declared.program.ProgramRows.{ProgramRows}
 use Rattle.lang_meaning.specs.declared.program.Qualifier.{Qualifier}
 use Rattle.lang_meaning.specs.declared.program.Qualifier.TheVariants.{Primary, Around, Before, After}
-use Rattle.lang_meaning.specs.Cells.{argument_classes, is_specialised, groups, tuples, chain_length, tuple_cells, generic_cells}
+use Rattle.lang_meaning.specs.Cells.{argument_classes, is_specialised, groups, chain_length, tuple_cells, generic_cells}
 use Rattle.lang_meaning.specs.Classes.{applies, more_specific, among, ordered, applicable, is_qualifier, of_kind, chain_of, chain, precedence}
 use Rattle.lang_meaning.specs.Lookup.{is_in}
 use Rattle.base.specs.Names.{slice_get-push}

@@ -1,5 +1,5 @@
 -- The cells of dispatch tables as they are kept, and what comes of them when tables have grown.
-use Rattle.std.specs.Prelude.{◌≡◌, ℕ, ◌+◌, ◌*◌, ◌<◌, ◌≤◌, min, List, [], Some, length, take, map, filter, slice_get}
+use Rattle.std.specs.Prelude.{◌≡◌, ℕ, ◌<◌, ◌≤◌, min, List, Some, length, take, filter, slice_get}
 use Rattle.std.specs.List.{range_with_len, sum_by}
 use Rattle.lang_meaning.specs.declared.program.ClassRow.{ClassRow}
 use Rattle.lang_meaning.specs.declared.program.GenericRow.{GenericRow}

@@ -63,12 +63,7 @@ fn ones(alloc: Global, count: usize) -> Result<MethodCounts, NoMemory>
 }
 
 // The number of a method with an argument more.
-fn scaled(
-    method: &MethodRow,
-    argument: usize,
-    below: &ClassCounts,
-    applied: u64,
-) -> Option<u64>
+fn scaled(method: &MethodRow, argument: usize, below: &ClassCounts, applied: u64) -> Option<u64>
     ensures { IfSome result (λ more. IsScaled method.now.classes argument below.now applied more) }
 {
     match method.classes.get(argument) {

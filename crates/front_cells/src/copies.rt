@@ -18,11 +18,7 @@ fn keep(both: &mut ClassIds, class: ClassId, flag: bool) -> Result<(), NoMemory>
 }
 
 // Those of the list whose flags are set; none where one has no flag.
-fn common(
-    alloc: Global,
-    flags: &ClassFlags,
-    list: &[ClassId],
-) -> Result<Option<ClassIds>, NoMemory>
+fn common(alloc: Global, flags: &ClassFlags, list: &[ClassId]) -> Result<Option<ClassIds>, NoMemory>
     ensures { IfOk result (λ o. IfSome o (λ both. IsCommon flags.now list.now both)) }
 {
     let mut both = ItemList::new(alloc);

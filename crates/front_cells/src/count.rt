@@ -150,7 +150,10 @@ impl CellCount {
         }
         let found = self.estimates(alloc, classes, generics)?;
         if found.total <= MOST_CELLS {
-            return Ok(Recount::New(CellCount { classes: classes.len(), generics: found.generics }));
+            return Ok(Recount::New(CellCount {
+                classes: classes.len(),
+                generics: found.generics,
+            }));
         }
         sharpened(alloc, classes, generics, &found, self)
     }

@@ -1,7 +1,6 @@
 -- A class more, which adds no group.
 use Rattle.std.proofs.Common.{arith}
 use Rattle.front_cells.proofs.Fewer.{first_cells, nothing_added}
-use Rattle.front_cells.proofs.Flagging.{not_false}
 use Rattle.front_cells.proofs.generic_count.with_classes.Goals as goal
 
 pub loop-class-init : goal.loop-class-init
@@ -12,7 +11,7 @@ loop-class-init c = record {
 
 pub loop-class-preserved : goal.loop-class-preserved
 loop-class-preserved c =
-    let added = nothing_added c.args.classes.now c.args.generic.now c.loop-class.class (c.in_ok-adds_nothing.ensures.nothing (not_false c.in_ok-adds_nothing.field-0 c.if-not-branch.false)) in
+    let added = nothing_added c.args.classes.now c.args.generic.now c.loop-class.class (c.in_ok-adds_nothing.ensures.nothing c.if-not-branch.false) in
     record {
       cleared = c.in_ok-adds_nothing.ensures.cleared;
       most = omega (arith, c.loop-class.invariant.most, added, c.requires.before.specialised, c.saturating_add-most.ensures);

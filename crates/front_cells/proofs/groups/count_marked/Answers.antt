@@ -1,8 +1,5 @@
 -- A class more, which makes a group or is a copy.
 use Rattle.std.proofs.Common.{◌≡◌, true, rules}
-use Rattle.lang_meaning.specs.Classes.{precedence}
-use Rattle.lang_dispatch.specs.OfClasses.{with_classes}
-use Rattle.front_cells.specs.Groups.{IsGroupMore}
 use Rattle.front_cells.proofs.Counting.{none_counted, class_more, copy_counted}
 use Rattle.front_cells.proofs.Flagging.{not_false}
 use Rattle.front_cells.proofs.groups.count_marked.Goals.{else-not-copy-via-then-not-copy+else-not-count_class, else-not-copy-via-else-not-copy}

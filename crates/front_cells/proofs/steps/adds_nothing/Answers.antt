@@ -1,6 +1,5 @@
 -- An argument more.
 use Rattle.front_cells.proofs.Fewer.{nothing_more}
-use Rattle.front_cells.proofs.Flagging.{not_false}
 use Rattle.front_cells.proofs.steps.adds_nothing.Goals as goal
 
 pub loop-argument-preserved : goal.loop-argument-preserved
@@ -8,5 +7,5 @@ loop-argument-preserved c = record {
   cleared = c.in_ok-is_copy_at.ensures.cleared;
   nothing =
       nothing_more c.args.classes.now c.args.generic.now c.args.class c.loop-argument.argument c.loop-argument.invariant.nothing
-          (c.in_ok-is_copy_at.ensures.copy (not_false c.in_ok-is_copy_at.field-0 c.if-not-branch.false));
+      (c.in_ok-is_copy_at.ensures.copy c.if-not-branch.false);
 }

@@ -8,5 +8,5 @@ loop-at-preserved c = record {
   cleared = c.in_ok-count.ensures.cleared;
   estimated =
       estimate_more c.loop-at.at c.args.classes.now c.args.generics.now c.in-Some.generic.now c.in_ok-count.count c.loop-at.found
-          (record { total = c.saturating_add.result; generics = c.push.new.self }) c.in-Some.ensures c.in_ok-count.ensures.counted (search rules) (search rules) c.loop-at.invariant.estimated;
+      (record { total = c.saturating_add.result; generics = c.push.new.self }) c.in-Some.ensures c.in_ok-count.ensures.counted (search rules) (search rules) c.loop-at.invariant.estimated;
 }

@@ -17,6 +17,11 @@ invariant_of-result c =
     let first = is_first c.reserved_words.new.names c.builtin.new.names c.in_ok-words.words c.in_ok-classes.classes c.first_tables-tables.result
     c.in_ok-classes.ensures.names c.in_ok-words.ensures.words c.in_ok-classes.ensures.built_in c.first_tables-tables.ensures in
     let whole = first_is_whole (record { first = laws.first; file = laws.file; prelude = laws.prelude }) c.builtin.new.names c.first_tables-tables.result c.class_list_nodes-nodes.result first
-    (search rules) in
-    (whole.0, (whole.1, first_count c.first_tables-tables.result c.new-cells.result first.nothing_else
-    (subst (λ (cs : List ClassRow). IsCellCount cs [] c.new-cells.result) c.rows-2.ensures.rows c.new-cells.ensures)))
+    (search rules) in (
+      whole.0,
+      (
+        whole.1,
+        first_count c.first_tables-tables.result c.new-cells.result first.nothing_else
+            (subst (λ (cs : List ClassRow). IsCellCount cs [] c.new-cells.result) c.rows-2.ensures.rows c.new-cells.ensures),
+      ),
+    )
