@@ -1,5 +1,5 @@
 -- Flags of classes that are set and cleared, and the lists of those whose flags are set.
-use Rattle.std.proofs.Common.{◌≡◌, ℕ, ◌+◌, ◌-◌, ◌<◌, ◌≤◌, ◌==◌, ⊎_elim, Bool, true, false, not, ◌||◌, List, [], ◌∷◌, ◌++◌, length, map, filter, Some, slice_get, if◌then◌else◌, get_or, take, drop, refl, ap, subst, sym, ◌∙◌, arith, append_assoc, append-nil}
+use Rattle.std.proofs.Common.{◌≡◌, ℕ, ◌+◌, ◌-◌, ◌<◌, ◌≤◌, ◌==◌, ⊎_elim, Bool, true, false, not, ◌||◌, List, [], ◌∷◌, ◌++◌, length, map, filter, Some, slice_get, if◌then◌else◌, get_or, take, drop, refl, ap, sym, ◌∙◌, arith}
 use Rattle.std.specs.Prelude.{slice_index_or}
 use Rattle.std.proofs.lemmas.List.{drop_all}
 use Rattle.std.proofs.lemmas.Option.{slice_get-get_or}
@@ -8,6 +8,7 @@ use Rattle.base.specs.model.DataRest.{rest_at}
 use Rattle.lang_meaning.specs.declared.program.MethodRow.{MethodRow}
 use Rattle.lang_meaning.specs.Lookup.{is_in}
 use Rattle.front_cells.specs.Flags.{AreFlags, IsSet}
+use Rattle.front_cells.specs.Copies.{IsNextSet, HaveSameCommon}
 
 pub flag_more : (flags : List Bool) → AreFlags [] flags → AreFlags [] (flags ++ false ∷ [])
 flag_more flags h class flag e =
@@ -85,48 +86,59 @@ all_cleared argument ms i flags past h class flag e =
 
 -- ---- lists of those whose flags are set
 
--- with those that are left, the ones of the list
-pub record IsCommonBut (flags : List Bool) (left list both : List ℕ) : Type 0 where
-  pub common : (column : List ℕ) → AreFlags column flags → both ++ filter (λ d. is_in d column) left ≡ filter (λ d. is_in d column) list
-
-pub none_common : (flags : List Bool) (list : List ℕ) → IsCommonBut flags list list []
-none_common flags list = record { common = λ column h. refl }
-
 kept_or_not : (p : ℕ → Bool) (b : Bool) (x : ℕ) (xs : List ℕ) → p x ≡ b → filter p (x ∷ xs) ≡ (if b then x ∷ filter p xs else filter p xs)
 kept_or_not p b x xs h = ap (λ v. if v then x ∷ filter p xs else filter p xs) h
 
-pub common_more : (flags : List Bool) (list : List ℕ) (i x : ℕ) (both : List ℕ) → slice_get list i ≡ Some x → slice_get flags x ≡ Some true →
-    IsCommonBut flags (drop i list) list both → IsCommonBut flags (drop (i + 1) list) list (both ++ x ∷ [])
-common_more flags list i x both there flag h = record {
-  common = λ column f.
-      let p : ℕ → Bool = λ d. is_in d column in
-      let rest : List ℕ = drop (i + 1) list in
-      append_assoc both (x ∷ []) (filter p rest)
-      ∙ (ap (λ ys. both ++ ys) (sym (kept_or_not p true x rest (sym (f x true flag))))
-      ∙ (ap (λ ys. both ++ filter p ys) (sym (rest_at list i x there)) ∙ h.common column f));
-}
+-- one is passed, or kept
 
-pub common_less : (flags : List Bool) (list : List ℕ) (i x : ℕ) (both : List ℕ) → slice_get list i ≡ Some x → slice_get flags x ≡ Some false →
-    IsCommonBut flags (drop i list) list both → IsCommonBut flags (drop (i + 1) list) list both
-common_less flags list i x both there flag h = record {
-  common = λ column f.
-      let p : ℕ → Bool = λ d. is_in d column in
-      let rest : List ℕ = drop (i + 1) list in
-      ap (λ ys. both ++ ys) (sym (kept_or_not p false x rest (sym (f x false flag))))
-      ∙ (ap (λ ys. both ++ filter p ys) (sym (rest_at list i x there)) ∙ h.common column f);
-}
-
-pub all_common : (flags : List Bool) (list : List ℕ) (i : ℕ) (both : List ℕ) → length list ≤ i → IsCommonBut flags (drop i list) list both →
-    (column : List ℕ) → AreFlags column flags → both ≡ filter (λ d. is_in d column) list
-all_common flags list i both past h column f =
+pub skip_one : (flags : List Bool) (list : List ℕ) (i x : ℕ) → slice_get list i ≡ Some x → slice_get flags x ≡ Some false → (column : List ℕ) → AreFlags column flags →
+    filter (λ d. is_in d column) (drop i list) ≡ filter (λ d. is_in d column) (drop (i + 1) list)
+skip_one flags list i x there flag column f =
     let p : ℕ → Bool = λ d. is_in d column in
-    sym (append-nil both) ∙ (ap (λ ys. both ++ filter p ys) (sym (drop_all i list past)) ∙ h.common column f)
+    ap (filter p) (rest_at list i x there) ∙ kept_or_not p false x (drop (i + 1) list) (sym (f x false flag))
 
--- an item more, where its flag is set
-pub common_step : (flags : List Bool) (list : List ℕ) (i x : ℕ) (flag : Bool) (both both' : List ℕ) → slice_get list i ≡ Some x → slice_get flags x ≡ Some flag →
-    both' ≡ (if flag then both ++ x ∷ [] else both) → IsCommonBut flags (drop i list) list both → IsCommonBut flags (drop (i + 1) list) list both'
-common_step flags list i x true both both' there flag e h = subst (λ (ks : List ℕ). IsCommonBut flags (drop (i + 1) list) list ks) (sym e) (common_more flags list i x both there flag h)
-common_step flags list i x false both both' there flag e h = subst (λ (ks : List ℕ). IsCommonBut flags (drop (i + 1) list) list ks) (sym e) (common_less flags list i x both there flag h)
+keep_one : (flags : List Bool) (list : List ℕ) (i x : ℕ) → slice_get list i ≡ Some x → slice_get flags x ≡ Some true → (column : List ℕ) → AreFlags column flags →
+    filter (λ d. is_in d column) (drop i list) ≡ x ∷ filter (λ d. is_in d column) (drop (i + 1) list)
+keep_one flags list i x there flag column f =
+    let p : ℕ → Bool = λ d. is_in d column in
+    ap (filter p) (rest_at list i x there) ∙ kept_or_not p true x (drop (i + 1) list) (sym (f x true flag))
+
+-- the rests of two lists from places on have the same ones where the lists have
+pub record HaveSameFrom (flags : List Bool) (list other : List ℕ) (at place : ℕ) : Type 0 where
+  pub within : at ≤ length list
+  pub other_within : place ≤ length other
+  pub same : (column : List ℕ) → AreFlags column flags → filter (λ d. is_in d column) (drop at list) ≡ filter (λ d. is_in d column) (drop place other) →
+      filter (λ d. is_in d column) list ≡ filter (λ d. is_in d column) other
+
+pub same_so_far : (flags : List Bool) (list other : List ℕ) → HaveSameFrom flags list other 0 0
+same_so_far flags list other = record { within = omega arith; other_within = omega arith; same = λ column f h. h }
+
+pub both_ended : (flags : List Bool) (list other : List ℕ) (at place next next_place : ℕ) → IsNextSet flags list at next → IsNextSet flags other place next_place →
+    next ≡ length list → next_place ≡ length other → HaveSameFrom flags list other at place → HaveSameCommon flags list other
+both_ended flags list other at place next next_place a b e k h column f =
+    let p : ℕ → Bool = λ d. is_in d column in
+    h.same column f
+    (a.skipped column f
+    ∙ (ap (filter p) (drop_all next list (omega (arith, e)))
+    ∙ (sym (ap (filter p) (drop_all next_place other (omega (arith, k)))) ∙ sym (b.skipped column f))))
+
+pub both_passed : (flags : List Bool) (list other : List ℕ) (at place next next_place : ℕ) → IsNextSet flags list at next → IsNextSet flags other place next_place →
+    next < length list → next_place < length other → slice_index_or list next 0 ≡ slice_index_or other next_place 0 → HaveSameFrom flags list other at place →
+    HaveSameFrom flags list other (next + 1) (next_place + 1)
+both_passed flags list other at place next next_place a b e k same h = record {
+  within = omega arith;
+  other_within = omega arith;
+  same = λ column f rest.
+      let p : ℕ → Bool = λ d. is_in d column in
+      let x : ℕ = slice_index_or list next 0 in
+      let y : ℕ = slice_index_or other next_place 0 in
+      h.same column f
+      (a.skipped column f
+      ∙ (keep_one flags list next x (slice_get-get_or list next 0 e) (a.set e) column f
+      ∙ (ap (λ z. z ∷ filter p (drop (next + 1) list)) same
+      ∙ (ap (λ ys. y ∷ ys) rest
+      ∙ (sym (keep_one flags other next_place y (slice_get-get_or other next_place 0 k) (b.set k) column f) ∙ sym (b.skipped column f))))));
+}
 
 -- the first of a list is not there, and the others are the other list
 pub first_left_out : (flags : List Bool) (x : ℕ) (list other : List ℕ) → ((column : List ℕ) → AreFlags column flags → is_in x column ≡ false) → list ≡ other →

@@ -1,5 +1,5 @@
 -- Classes that have at an argument the group of an earlier class.
-use Rattle.std.specs.Prelude.{◌≡◌, ℕ, ◌<◌, Bool, List, filter}
+use Rattle.std.specs.Prelude.{◌≡◌, ℕ, ◌<◌, ◌≤◌, Bool, true, List, Some, length, drop, filter, slice_get, slice_index_or}
 use Rattle.lang_meaning.specs.declared.program.ClassRow.{ClassRow}
 use Rattle.lang_meaning.specs.declared.program.GenericRow.{GenericRow}
 use Rattle.lang_meaning.specs.Lookup.{is_in}
@@ -7,9 +7,11 @@ use Rattle.lang_meaning.specs.Cells.{argument_classes, group_of}
 use Rattle.lang_dispatch.specs.OfClasses.{with_classes}
 use Rattle.front_cells.specs.Flags.{AreFlags}
 
--- those of a list whose flags are set
-abbrev pub IsCommon : (flags : List Bool) (list both : List ℕ) → Type 0
-IsCommon flags list both = (column : List ℕ) → AreFlags column flags → both ≡ filter (λ d. is_in d column) list
+-- the place of the next one whose flag is set, from a place on, or the end of the list
+pub record IsNextSet (flags : List Bool) (list : List ℕ) (from at : ℕ) : Type 0 where
+  pub within : at ≤ length list
+  pub skipped : (column : List ℕ) → AreFlags column flags → filter (λ d. is_in d column) (drop from list) ≡ filter (λ d. is_in d column) (drop at list)
+  pub set : at < length list → slice_get flags (slice_index_or list at 0) ≡ Some true
 
 -- two lists have the same ones
 abbrev pub HaveSameCommon : (flags : List Bool) (list other : List ℕ) → Type 0

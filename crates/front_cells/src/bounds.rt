@@ -129,7 +129,8 @@ fn count_tuples(
     generic: &GenericRow,
 ) -> Result<Option<TupleCounts>, NoMemory>
     requires { AreFlags [] flags.old }
-    ensures counted { IfOk result (λ o. IfSome o (λ counts. AreTupleCounts classes.now generic.now generic.now.required counts)) }
+    ensures counted { IfOk result (λ o. IfSome o
+        (λ counts. AreTupleCounts classes.now generic.now generic.now.required counts)) }
     ensures cleared { OnOk result (AreFlags [] flags.new) }
 {
     let mut counts = TupleCounts {
@@ -200,7 +201,8 @@ fn with_tuples(
     generic: &GenericRow,
     counts: &TupleCounts,
 ) -> Option<u64>
-    requires maps { length _classes.now * length (filter (is_specialised generic.now) (range_with_len 0 generic.now.required)) ≤ maps }
+    requires maps { length _classes.now
+        * length (filter (is_specialised generic.now) (range_with_len 0 generic.now.required)) ≤ maps }
     requires counts { AreTupleCounts _classes.now generic.now generic.now.required counts.now }
     ensures { IfSome result (λ most. generic_cells (with_classes _classes.now) generic.now ≤ most) }
 {
@@ -218,7 +220,8 @@ pub(crate) fn most_cells(
     generic: &GenericRow,
 ) -> Result<Option<u64>, NoMemory>
     requires { AreFlags [] flags.old }
-    ensures counted { IfOk result (λ o. IfSome o (λ most. generic_cells (with_classes classes.now) generic.now ≤ most)) }
+    ensures counted { IfOk result (λ o. IfSome o
+        (λ most. generic_cells (with_classes classes.now) generic.now ≤ most)) }
     ensures cleared { OnOk result (AreFlags [] flags.new) }
 {
     let Some(counts) = count_tuples(alloc, classes, flags, generic)? else {

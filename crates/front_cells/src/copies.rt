@@ -1,34 +1,24 @@
 // Classes that have at an argument the group of an earlier class, so that they make no group of their own.
 
-ghost use Rattle.std.specs.Prelude.{◌≡◌, ◌<◌, ℕ, Bool, List, true, false, filter, ◌++◌, ◌∷◌, [], if◌then◌else◌, IfOk, IfSome, OnOk};
+ghost use Rattle.std.specs.Prelude.{◌≡◌, ◌≤◌, ℕ, List, true, false, length, IfSome};
 ghost use Rattle.lang_meaning.specs.Lookup.{is_in};
 ghost use Rattle.front_cells.specs.Flags.{AreFlags};
-ghost use Rattle.front_cells.specs.Copies.{IsCopy, IsCommon, HaveSameCommon};
+ghost use Rattle.front_cells.specs.Copies.{IsCopy, IsNextSet, HaveSameCommon};
 
 use crate::flags::ClassFlags;
-use base::{ItemList, NoMemory};
-use lang_meaning::{ClassId, ClassIds, ClassRows};
-use std::alloc::Global;
+use lang_meaning::{ClassId, ClassRows};
 
-// A class more, where its flag is set.
-fn keep(both: &mut ClassIds, class: ClassId, flag: bool) -> Result<(), NoMemory>
-    ensures { OnOk result (both.new ≡ (if flag then both.old ++ class ∷ [] else both.old)) }
+// The place of the next one whose flag is set, from a place on, or the length; none where one has no flag.
+fn next_set(flags: &ClassFlags, list: &[ClassId], from: usize) -> Option<usize>
+    requires { from ≤ length list.now }
+    ensures { IfSome result (λ at. IsNextSet flags.now list.now from at) }
 {
-    if flag { both.push(class) } else { Ok(()) }
-}
-
-// Those of the list whose flags are set; none where one has no flag.
-fn common(alloc: Global, flags: &ClassFlags, list: &[ClassId]) -> Result<Option<ClassIds>, NoMemory>
-    ensures { IfOk result (λ o. IfSome o (λ both. IsCommon flags.now list.now both)) }
-{
-    let mut both = ItemList::new(alloc);
-    for class in list {
-        let Some(flag) = flags.get(*class) else {
-            return Ok(None);
-        };
-        keep(&mut both, *class, *flag)?;
+    for at in from..list.len() {
+        if *flags.get(list[at])? {
+            return Some(at);
+        }
     }
-    Ok(Some(both))
+    Some(list.len())
 }
 
 // Whether the flag of a class is known not to be set.
@@ -41,69 +31,62 @@ fn is_unset(flags: &ClassFlags, class: ClassId) -> bool
     }
 }
 
-// Whether two lists have the same ones whose flags are set.
-fn have_same_common(
-    alloc: Global,
-    flags: &ClassFlags,
-    list: &[ClassId],
-    other: &[ClassId],
-) -> Result<bool, NoMemory>
-    ensures { IfOk result (λ same. same ≡ true → HaveSameCommon flags.now list.now other.now) }
+// Whether it is found that two lists have the same ones whose flags are set, fewer than the first list has in all.
+fn have_same_common(flags: &ClassFlags, list: &[ClassId], other: &[ClassId]) -> bool
+    ensures { result ≡ true → HaveSameCommon flags.now list.now other.now }
 {
-    let Some(both) = common(alloc, flags, list)? else {
-        return Ok(false);
-    };
-    let Some(others) = common(alloc, flags, other)? else {
-        return Ok(false);
-    };
-    Ok(both.as_slice() == others.as_slice())
+    let mut at: usize = 0;
+    let mut place: usize = 0;
+    for _turn in 0..list.len() {
+        let Some(next) = next_set(flags, list, at) else {
+            return false;
+        };
+        let Some(other_next) = next_set(flags, other, place) else {
+            return false;
+        };
+        if next == list.len() {
+            return other_next == other.len();
+        }
+        if other_next == other.len() || list[next] != other[other_next] {
+            return false;
+        }
+        at = next + 1;
+        place = other_next + 1;
+    }
+    false
 }
 
 // The same of the precedence list of a class that has no flag and that of the first class above it.
-fn adds_none(
-    alloc: Global,
-    flags: &ClassFlags,
-    list: &[ClassId],
-    other: &[ClassId],
-) -> Result<bool, NoMemory>
-    ensures { IfOk result (λ same. same ≡ true → HaveSameCommon flags.now list.now other.now) }
+fn adds_none(flags: &ClassFlags, list: &[ClassId], other: &[ClassId]) -> bool
+    ensures { result ≡ true → HaveSameCommon flags.now list.now other.now }
 {
     let [class, rest @ ..] = list else {
-        return Ok(false);
+        return false;
     };
     if !is_unset(flags, *class) {
-        return Ok(false);
+        return false;
     }
-    if *rest == *other {
-        return Ok(true);
-    }
-    have_same_common(alloc, flags, list, other)
+    *rest == *other || have_same_common(flags, list, other)
 }
 
 /// Whether it is found that the class has the group of an earlier one, namely of the first class above it, where the
 /// flags are those of the methods' classes at an argument.
-pub(crate) fn is_copy(
-    alloc: Global,
-    classes: &ClassRows,
-    flags: &ClassFlags,
-    class: ClassId,
-) -> Result<bool, NoMemory>
-    ensures { IfOk result (λ copy. copy ≡ true → (column : List ℕ) → AreFlags column flags.now → IsCopy classes.now column class) }
+pub(crate) fn is_copy(classes: &ClassRows, flags: &ClassFlags, class: ClassId) -> bool
+    ensures { (column : List ℕ) → AreFlags column flags.now → result ≡ true → IsCopy classes.now column class }
 {
     let Some(row) = classes.get(class) else {
-        return Ok(false);
+        return false;
     };
     let Some(parent) = row.precedence.get(1) else {
-        return Ok(false);
+        return false;
     };
     if *parent >= class {
-        return Ok(false);
+        return false;
     }
     let Some(above) = classes.get(*parent) else {
-        return Ok(false);
+        return false;
     };
     adds_none(
-        alloc,
         flags,
         row.precedence.as_slice(),
         above.precedence.as_slice(),

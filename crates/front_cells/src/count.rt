@@ -1,11 +1,9 @@
 // The cells of all dispatch tables, kept from form to form.
 
-ghost use Rattle.std.specs.Prelude.{◌≡◌, ◌≤◌, ◌+◌, ℕ, [], true, length, min, slice_get, Some, IfOk, OnOk};
-ghost use Rattle.std.specs.List.{sum_by};
-ghost use Rattle.lang_meaning.specs.Cells.{generic_cells};
-ghost use Rattle.lang_dispatch.specs.OfClasses.{with_classes};
+ghost use Rattle.std.specs.Prelude.{◌≡◌, [], true, slice_get, Some, IfOk, OnOk};
 ghost use Rattle.front_cells.specs.Flags.{AreFlags};
-ghost use Rattle.front_cells.specs.Counts.{IsCellCount, WasCellCount, IsRecount, IsCurrent, AreEstimates, IsCountOf, HasMethodsOf};
+ghost use Rattle.front_cells.specs.Counts.{IsCellCount, WasCellCount, IsRecount, AreEstimates, IsCountOf};
+ghost use Rattle.front_cells.specs.Counts.{IsCurrent, HasMethodsOf};
 
 use crate::flags::{ClassFlags, no_flags};
 use crate::generic_count::{GenericCount, counted, estimated, recounted};

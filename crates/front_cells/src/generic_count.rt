@@ -65,34 +65,34 @@ pub(crate) fn counted(
     })
 }
 
-// The count behind the classes from one on, where none of them adds a group, and none else; no flag is set, and none is then.
+// The count behind the classes from one on, where none of them adds a group, and none else; no flag is set, and none
+// is then.
 fn with_classes(
-    alloc: Global,
     classes: &ClassRows,
     flags: &mut ClassFlags,
     generic: &GenericRow,
     count: &GenericCount,
     from: usize,
-) -> Result<Option<GenericCount>, NoMemory>
+) -> Option<GenericCount>
     requires cleared { AreFlags [] flags.old }
     requires there { from ≤ length classes.now }
     requires before { IsCountOf (take from classes.now) generic.now count.now }
-    ensures counted { IfOk result (λ o. IfSome o (λ count. IsCountOf classes.now generic.now count)) }
-    ensures cleared { OnOk result (AreFlags [] flags.new) }
+    ensures counted { IfSome result (λ count. IsCountOf classes.now generic.now count) }
+    ensures cleared { AreFlags [] flags.new }
 {
     let mut most = count.most;
     for class in from..classes.len() {
-        if !adds_nothing(alloc, classes, flags, generic, class)? {
-            return Ok(None);
+        if !adds_nothing(classes, flags, generic, class) {
+            return None;
         }
         most = most.saturating_add(count.specialised);
     }
-    Ok(Some(GenericCount {
+    Some(GenericCount {
         methods: count.methods,
         specialised: count.specialised,
         most,
         exact: count.exact,
-    }))
+    })
 }
 
 /// The count of a generic function that has the same methods as before, behind the classes from one on. No flag is set,
@@ -111,7 +111,7 @@ pub(crate) fn recounted(
     ensures counted { IfOk result (λ count. IsCountOf classes.now generic.now count) }
     ensures cleared { OnOk result (AreFlags [] flags.new) }
 {
-    match with_classes(alloc, classes, flags, generic, count, from)? {
+    match with_classes(classes, flags, generic, count, from) {
         Some(count) => Ok(count),
         None => estimated(alloc, classes, flags, generic),
     }

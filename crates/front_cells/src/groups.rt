@@ -79,14 +79,15 @@ fn count_marked(
     classes: &ClassRows,
     flags: &ClassFlags,
 ) -> Result<Option<GroupCounts>, NoMemory>
-    ensures { IfOk result (λ o. IfSome o (λ counts. (column : List ℕ) → AreFlags column flags.now → AreGroupCounts classes.now column counts)) }
+    ensures { IfOk result (λ o. IfSome o
+        (λ counts. (column : List ℕ) → AreFlags column flags.now → AreGroupCounts classes.now column counts)) }
 {
     let mut counts = GroupCounts {
         groups: 0,
         below: zeros(alloc, classes.len())?,
     };
     for class in 0..classes.len() {
-        let copy = is_copy(alloc, classes, flags, class)?;
+        let copy = is_copy(classes, flags, class);
         if !copy && !count_class(&mut counts, classes, class) {
             return Ok(None);
         }
@@ -103,7 +104,8 @@ pub(crate) fn count_groups(
     argument: usize,
 ) -> Result<Option<GroupCounts>, NoMemory>
     requires { AreFlags [] flags.old }
-    ensures counted { IfOk result (λ o. IfSome o (λ counts. AreGroupCounts classes.now (argument_classes generic.now argument) counts)) }
+    ensures counted { IfOk result (λ o. IfSome o
+        (λ counts. AreGroupCounts classes.now (argument_classes generic.now argument) counts)) }
     ensures cleared { OnOk result (AreFlags [] flags.new) }
 {
     mark(flags, generic, argument);

@@ -32,7 +32,7 @@ use Rattle.front_profile.specs.Between.{TopLevelTables, HasNoForm}
 use Rattle.front_profile.specs.Places.{EmptyContext}
 use Rattle.front_profile.specs.Right.{with_main as with_form}
 use Rattle.front_cells.specs.declared.count.CellCount.{CellCount}
-use Rattle.front_cells.specs.Counts.{IsCellCount, HasMoreMethods, WasCellCount}
+use Rattle.front_cells.specs.Counts.{all_cells, IsCellCount, HasMoreMethods, WasCellCount}
 use Rattle.front_scope.specs.Cells.{IsCountAfter, StopsAtCells}
 use Rattle.front_scope.specs.Scopes.{rows_of, nodes_of, cells_of, most_nodes, most_cells, top, first_tables, IsElaborated, IsFormStopped, AreInitialTables, IsWhole}
 
@@ -201,6 +201,11 @@ first_count t count e h = subst (λ (gs : List GenericRow). IsCellCount t.classe
 pub count_few : (t : Tables) (old : CellCount) (new : Option CellCount) → IsCountAfter t old new → cells_of t ≤ most_cells
 count_few t old None h = h.few
 count_few t old (Some new) h = h.few
+
+pub too_many : (t : Tables) (cs : List ClassRow) (gs : List GenericRow) → cs ≡ t.classes.rows → gs ≡ t.generics → most_cells < all_cells cs gs → most_cells < cells_of t
+too_many t cs gs e f h =
+    let classes : most_cells < all_cells t.classes.rows gs = subst (λ ks. most_cells < all_cells ks gs) e h in
+    subst (λ hs. most_cells < all_cells t.classes.rows hs) f classes
 
 pub stops_at_cells : (names : List (List ℕ)) (origin : Origin) (s : Tables) (d : Item) (t : Tables) (stop : Stop) → IsElaborated names origin s d t → nodes_of t ≤ most_nodes →
     StopsAtCells t d stop → IsFormStopped names origin s d stop

@@ -11,8 +11,8 @@ loop-class-init c = record {
 
 pub loop-class-preserved : goal.loop-class-preserved
 loop-class-preserved c =
-    let added = nothing_added c.args.classes.now c.args.generic.now c.loop-class.class (c.in_ok-adds_nothing.ensures.nothing c.if-not-branch.false) in
+    let added = nothing_added c.args.classes.now c.args.generic.now c.loop-class.class (c.adds_nothing.ensures.nothing c.if-not-adds_nothing.false) in
     record {
-      cleared = c.in_ok-adds_nothing.ensures.cleared;
+      cleared = c.adds_nothing.ensures.cleared;
       most = omega (arith, c.loop-class.invariant.most, added, c.requires.before.specialised, c.saturating_add-most.ensures);
     }

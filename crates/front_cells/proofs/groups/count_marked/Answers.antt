@@ -14,6 +14,6 @@ loop-class-preserved c = elim c.else-not-copy.branch [
       let counted : w.count_class.result ≡ true = not_false w.count_class.result (search rules) in
       rw w.counts-is (class_more c.args.classes.now column c.loop-class.class c.loop-class.counts w.count_class.new.counts (w.count_class.ensures counted) (c.loop-class.invariant column f))
   | else-not-copy-via-else-not-copy w ↦ λ column f.
-      let copy : c.in_ok-copy.copy ≡ true = not_false c.in_ok-copy.copy (search rules) in
-      rw w.counts-is (copy_counted c.args.classes.now column c.loop-class.class c.loop-class.counts (c.in_ok-copy.ensures copy column f) (c.loop-class.invariant column f))
+      let copy : c.is_copy-copy.result ≡ true = not_false c.is_copy-copy.result (search rules) in
+      rw w.counts-is (copy_counted c.args.classes.now column c.loop-class.class c.loop-class.counts (c.is_copy-copy.ensures column f copy) (c.loop-class.invariant column f))
 ]

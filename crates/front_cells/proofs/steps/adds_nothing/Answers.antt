@@ -4,8 +4,8 @@ use Rattle.front_cells.proofs.steps.adds_nothing.Goals as goal
 
 pub loop-argument-preserved : goal.loop-argument-preserved
 loop-argument-preserved c = record {
-  cleared = c.in_ok-is_copy_at.ensures.cleared;
+  cleared = c.is_copy_at.ensures.cleared;
   nothing =
       nothing_more c.args.classes.now c.args.generic.now c.args.class c.loop-argument.argument c.loop-argument.invariant.nothing
-      (c.in_ok-is_copy_at.ensures.copy c.if-not-branch.false);
+      (c.is_copy_at.ensures.copy c.if-not-is_copy_at.false);
 }

@@ -1,5 +1,6 @@
 -- The nodes of the program with the form are counted, and its cells.
 use Rattle.std.proofs.Common.{inl, inr, refl, arith}
+use Rattle.std.proofs.lemmas.Result.{err_from_is_err_and}
 use Rattle.front_scope.proofs.Counting.{counted_exactly, counted_too_many}
 use Rattle.front_scope.proofs.Keeping.{given_whole, was_counted, count_few, stops_at_cells}
 use Rattle.front_scope.proofs.scope.take_form.Goals as goal
@@ -26,10 +27,13 @@ count_cells-requires c =
 
 pub returns-in_err-cells-clause-stop : goal.returns-in_err-cells-clause-stop
 returns-in_err-cells-clause-stop c =
+    let p = err_from_is_err_and c.from_residual-in_err-cells.result c.from_residual-in_err-cells.ensures.1 in
     let same = counted_exactly c.args.tables.now c.judge_top.new.tables c.args.mark.now c.args.nodes _ c.in_ok-judge_top.ensures.grows c.requires.mark c.requires.nodes
     c.with_added-nodes.ensures (omega (arith, c.if-nodes-gt-MOST_NODES.false)) in
-    stops_at_cells c.judge_top.new.names c.args.origin c.args.tables.now c.args.datum.now c.judge_top.new.tables _ c.in_ok-judge_top.ensures.given
+    rw (p.1, p.2) (
+    stops_at_cells c.judge_top.new.names c.args.origin c.args.tables.now c.args.datum.now c.judge_top.new.tables c.in_err-cells.field-0.0 c.in_ok-judge_top.ensures.given
     (omega (arith, same, c.if-nodes-gt-MOST_NODES.false)) c.in_err-cells.ensures.stop
+    )
 
 pub returns-clause-taken : goal.returns-clause-taken
 returns-clause-taken c =
