@@ -1,6 +1,6 @@
 -- The cells of a generic function where only the first classes are there: with a class more that adds no group.
 use Rattle.std.proofs.Common.{◌≡◌, ℕ, zero, suc, ◌+◌, ◌*◌, ◌<◌, ◌≤◌, ◌==◌, nat_lt, Bool, true, false, ◌&&◌, List, [], ◌∷◌, ◌++◌, length, map, filter, take, slice_get, if◌then◌else◌, min, refl, ap, subst, sym, ◌∙◌, arith}
-use Rattle.std.specs.Prelude.{flat_map}
+use Rattle.std.specs.Prelude.{flat_map, slice_index_or}
 use Rattle.std.specs.Str.{bytes_eq}
 use Rattle.std.specs.List.{range_with_len, list_any, sum_by, position_or_len}
 use Rattle.std.proofs.lemmas.Bool.{eqb-true}
@@ -208,3 +208,22 @@ nothing_more rows g class argument h copy i b = elim (i == argument) as (λ v. (
 -- where all classes are there
 pub all_cells_there : (rows : List ClassRow) (g : GenericRow) (n most : ℕ) → n ≡ length rows → min (cells_to rows g n) 262145 ≤ most → min (generic_cells (with_classes rows) g) 262145 ≤ most
 all_cells_there rows g n most e h = subst (λ (k : ℕ). min (cells_to rows g k) 262145 ≤ most) e h
+
+-- without a method there is one group
+
+none_in : (ds : List ℕ) → filter (λ d. is_in d []) ds ≡ []
+none_in [] = refl
+none_in (d ∷ ds) = none_in ds
+
+empty_group : (rows : List ClassRow) (column : List ℕ) (class : ℕ) → column ≡ [] → group_of (with_classes rows) column class ≡ []
+empty_group rows column class e =
+    ap (λ ks. filter (λ d. is_in d ks) (precedence (with_classes rows) class)) e ∙ none_in (precedence (with_classes rows) class)
+
+no_classes : (argument : ℕ) (ms : List MethodRow) → length ms ≡ 0 → map (λ (m : MethodRow). slice_index_or m.classes argument 0) ms ≡ []
+no_classes argument [] e = refl
+no_classes argument (m ∷ ms) e = absurd (omega (arith, e))
+
+pub one_group : (rows : List ClassRow) (g : GenericRow) (class : ℕ) → (length g.methods ≡ 0) × (0 < class) → AddsNothing rows g class
+one_group rows g class h argument b =
+    let none : argument_classes g argument ≡ [] = no_classes argument g.methods h.0 in
+    (0, (h.1, empty_group rows (argument_classes g argument) class none ∙ sym (empty_group rows (argument_classes g argument) 0 none)))

@@ -1,6 +1,6 @@
 // Whether a class more adds a group to a generic function.
 
-ghost use Rattle.std.specs.Prelude.{◌≡◌, [], true};
+ghost use Rattle.std.specs.Prelude.{◌≡◌, ◌<◌, [], true, length};
 ghost use Rattle.lang_meaning.specs.Cells.{argument_classes};
 ghost use Rattle.front_cells.specs.Flags.{AreFlags};
 ghost use Rattle.front_cells.specs.Copies.{IsCopy, AddsNothing};
@@ -27,6 +27,13 @@ fn is_copy_at(
     copy
 }
 
+// Whether there is one group at each argument, as no method tells classes apart, and the class is not its first.
+fn has_one_group(generic: &GenericRow, class: ClassId) -> bool
+    ensures { result ≡ true → (length generic.now.methods ≡ 0) × (0 < class) }
+{
+    generic.methods.len() == 0 && class > 0
+}
+
 /// Whether it is found that the class has the group of an earlier one at each argument, where no flag is set, and none
 /// is then.
 pub(crate) fn adds_nothing(
@@ -39,6 +46,9 @@ pub(crate) fn adds_nothing(
     ensures nothing { result ≡ true → AddsNothing classes.now generic.now class }
     ensures cleared { AreFlags [] flags.new }
 {
+    if has_one_group(generic, class) {
+        return true;
+    }
     for argument in 0..generic.required {
         if !is_copy_at(classes, flags, generic, argument as usize, class) {
             return false;
