@@ -1,12 +1,14 @@
 -- Tables stay a whole program: in front of all forms, and behind each that is taken.
-use Rattle.std.proofs.Common.{◌≡◌, ℕ, ◌+◌, ◌*◌, ◌<◌, ◌≤◌, ◌==◌, nat_lt, min, Bool, true, false, ◌&&◌, not, List, [], ◌∷◌, ◌++◌, length, Result, Ok, Err, OnOk, OnErr, refl, ap, subst, sym, ◌∙◌, arith}
+use Rattle.std.proofs.Common.{◌≡◌, ℕ, zero, suc, ◌+◌, ◌*◌, ◌<◌, ◌≤◌, ◌==◌, min, inr, Option, Some, None, slice_get, Bool, true, false, ◌&&◌, not, List, [], ◌∷◌, ◌++◌, length, Result, Ok, Err, OnOk, OnErr, refl, ap, subst, sym, ◌∙◌, arith}
 use Rattle.std.specs.Str.{bytes_eq}
 use Rattle.std.specs.List.{list_all, sum_by}
-use Rattle.std.proofs.lemmas.Bool.{eqb-true, ltb-true, ltb-false, lt-ltb, le-ltb}
+use Rattle.std.proofs.lemmas.Bool.{eqb-true}
 use Rattle.std.proofs.lemmas.List.Sums.{sum_by-cons}
 use Rattle.base.specs.declared.datum.Name.{Name}
 use Rattle.base.specs.declared.origin.Origin.{Origin}
 use Rattle.base.specs.declared.origin.Origin.TheVariants.{Prelude, File}
+use Rattle.base.specs.declared.reason.Stop.{Stop}
+use Rattle.base.specs.declared.reason.Stop.TheVariants.{Refused, NoMemory}
 use Rattle.base.specs.Names.{Extends, Extends-same}
 use Rattle.base.specs.Data.{Item}
 use Rattle.base.specs.WellFormedData.{WellFormed, good_stays}
@@ -16,14 +18,12 @@ use Rattle.lang_meaning.specs.declared.program.GenericRow.{GenericRow}
 use Rattle.lang_meaning.specs.declared.program.ProgramRows.{ProgramRows}
 use Rattle.lang_meaning.specs.BuiltIn.{built_in_precedence, built_in_slots}
 use Rattle.lang_meaning.specs.Facts.{is_one, is_plain_slot, is_row, begins_with_built_in, is_whole}
-use Rattle.lang_meaning.specs.Cells.{generic_cells}
 use Rattle.lang_meaning.specs.Form.{Form}
 use Rattle.lang_meaning.specs.ProgramCounts.{slot_nodes, class_nodes}
 use Rattle.lang_classes.specs.InheritedClasses.{Hierarchy}
 use Rattle.lang_classes.specs.InheritedBuiltIn.{AreBuiltIn}
-use Rattle.lang_dispatch.specs.OfClasses.{with_classes}
 use Rattle.front_profile.specs.declared.tables.Tables.{Tables}
-use Rattle.front_profile.specs.Marks.{TablesGrow}
+use Rattle.front_profile.specs.Marks.{HasMore, AreThere, TablesGrow}
 use Rattle.front_profile.specs.bridge.Growing.{tables_grow_reflexive, grows_at_end}
 use Rattle.front_profile.specs.Nodes.{StaticContext, Standing, stands}
 use Rattle.front_profile.specs.Judged.{Elaborates}
@@ -31,12 +31,12 @@ use Rattle.front_profile.specs.Rows.{node}
 use Rattle.front_profile.specs.Between.{TopLevelTables, HasNoForm}
 use Rattle.front_profile.specs.Places.{EmptyContext}
 use Rattle.front_profile.specs.Right.{with_main as with_form}
-use Rattle.front_profile.specs.declared.mark.Mark.{Mark}
-use Rattle.front_programs.specs.Calls.{Begun}
-use Rattle.front_scope.specs.Cells.{FewAt}
 use Rattle.front_profile.specs.Cuts.{mark_of, opened}
-use Rattle.front_scope.specs.Scopes.{rows_of, nodes_of, cells_of, most_cells, top, first_tables, IsElaborated, AreInitialTables, IsWhole}
-use Rattle.front_profile.specs.bridge.CutGenerics.{same_rows, same_generics}
+use Rattle.front_programs.specs.Calls.{Begun}
+use Rattle.front_cells.specs.declared.count.CellCount.{CellCount}
+use Rattle.front_cells.specs.Counts.{all_cells, IsCellCount, HasMoreMethods, WasCellCount}
+use Rattle.front_scope.specs.Cells.{IsCountAfter, StopsAtCells}
+use Rattle.front_scope.specs.Scopes.{rows_of, nodes_of, cells_of, most_nodes, most_cells, top, first_tables, IsElaborated, IsFormStopped, AreInitialTables, IsWhole}
 
 -- what is known of top-level forms
 pub record TopForms : Type 0 where
@@ -211,16 +211,47 @@ put_together_whole t cs gs e f h =
     let classes : is_whole (put_together t cs t.generics) ≡ true = subst (λ ks. is_whole (put_together t ks t.generics) ≡ true) (sym e) h in
     subst (λ hs. is_whole (put_together t cs hs) ≡ true) (sym f) classes
 
--- a form that defines nothing leaves the cells as few as they were
-pub few_at : (s t : Tables) (mark : Mark) → TablesGrow s t → mark ≡ mark_of s → cells_of s ≤ most_cells → FewAt mark t
-few_at s t mark g m few = record {
-  few = λ classes methods.
-      let rows : t.classes.rows ≡ s.classes.rows = same_rows s.classes.rows t.classes.rows g.classes (classes ∙ ap (λ (k : Mark). k.classes) m) in
-      let generics : t.generics ≡ s.generics = same_generics s.generics t.generics g.generics (methods ∙ ap (λ (k : Mark). k.methods) m) in
-      let same : cells_of t ≡ cells_of s =
-      ap (λ cs. sum_by (generic_cells (with_classes cs)) t.generics) rows ∙ ap (λ gs. sum_by (generic_cells (with_classes s.classes.rows)) gs) generics in
-      omega (arith, same, few);
+-- the count of tables that have grown
+
+grown_methods : (g h : GenericRow) → HasMore g h → HasMoreMethods g h
+grown_methods g h more = record { name = more.0; required = more.1; rest = more.2; methods = more.3 }
+
+grown_generics : (gs hs : List GenericRow) → AreThere gs hs → (i : ℕ) (g h : GenericRow) → slice_get gs i ≡ Some g → slice_get hs i ≡ Some h → HasMoreMethods g h
+grown_generics [] hs there i g h a b = absurd (cc a)
+grown_generics (k ∷ gs) [] there i g h a b = absurd there
+grown_generics (k ∷ gs) (l ∷ hs) there zero g h a b =
+    let first : k ≡ g = cc a in
+    let second : l ≡ h = cc b in
+    subst (λ (h : GenericRow). HasMoreMethods g h) second (subst (λ (g : GenericRow). HasMoreMethods g l) first (grown_methods k l there.0))
+grown_generics (k ∷ gs) (l ∷ hs) there (suc i) g h a b = grown_generics gs hs there.1 i g h a b
+
+pub was_counted : (s t : Tables) (count : CellCount) → TablesGrow s t → IsCellCount s.classes.rows s.generics count → WasCellCount t.classes.rows t.generics count
+was_counted s t count grown counted = record {
+  rows_then = s.classes.rows;
+  generics_then = s.generics;
+  counted = counted;
+  classes = grown.classes;
+  generics = grown_generics s.generics t.generics grown.generics;
 }
+
+pub first_count : (t : Tables) (count : CellCount) → t ≡ first_tables t.words t.classes → IsCellCount t.classes.rows [] count → IsCellCount t.classes.rows t.generics count
+first_count t count e h = subst (λ (gs : List GenericRow). IsCellCount t.classes.rows gs count) (sym (ap (λ (u : Tables). u.generics) e)) h
+
+-- what is counted is few, and a form that stops at its cells has too many
+
+pub count_few : (t : Tables) (old : CellCount) (new : Option CellCount) → IsCountAfter t old new → cells_of t ≤ most_cells
+count_few t old None h = h.few
+count_few t old (Some new) h = h.few
+
+pub too_many : (t : Tables) (cs : List ClassRow) (gs : List GenericRow) → cs ≡ t.classes.rows → gs ≡ t.generics → most_cells < all_cells cs gs → most_cells < cells_of t
+too_many t cs gs e f h =
+    let classes : most_cells < all_cells t.classes.rows gs = subst (λ ks. most_cells < all_cells ks gs) e h in
+    subst (λ hs. most_cells < all_cells t.classes.rows hs) f classes
+
+pub stops_at_cells : (names : List (List ℕ)) (origin : Origin) (s : Tables) (d : Item) (t : Tables) (stop : Stop) → IsElaborated names origin s d t → nodes_of t ≤ most_nodes →
+    StopsAtCells t d stop → IsFormStopped names origin s d stop
+stops_at_cells names origin s d t (Refused r) given small h = inr (inr (record { tables = t; given = given; small = small; many = h.1 }, h.0))
+stops_at_cells names origin s d t NoMemory given small h = tt
 
 -- a main form more
 main_grows : (t : Tables) (f : Form) → TablesGrow t (record t { main = t.main ++ f ∷ [] })
@@ -250,23 +281,3 @@ pub pushed_grows : {T E : Type 0} (r : Result T E) (t : Tables) (fs : List Form)
     TablesGrow t (record t { main = fs })
 pushed_grows (Ok x) t fs f ok err = rw ok (main_grows t f)
 pushed_grows (Err x) t fs f ok err = rw err (tables_grow_reflexive t)
-
--- what is counted up to the limit tells whether it is past it
-
-capped_as : (n m : ℕ) (b : Bool) → n ≡ min m 262145 → nat_lt 262144 m ≡ b → nat_lt 262144 n ≡ nat_lt 262144 m
-capped_as n m true e h = lt-ltb 262144 n (omega (arith, e, ltb-true 262144 m h)) ∙ sym h
-capped_as n m false e h = le-ltb 262144 n (omega (arith, e, ltb-false 262144 m h)) ∙ sym h
-
-pub counted_cells : (t : Tables) (cs : List ClassRow) (n : ℕ) → cs ≡ t.classes.rows → n ≡ min (sum_by (generic_cells (with_classes cs)) t.generics) 262145 →
-    nat_lt 262144 n ≡ nat_lt most_cells (cells_of t)
-counted_cells t cs n e h =
-    let same : n ≡ min (cells_of t) 262145 = h ∙ ap (λ ks. min (sum_by (generic_cells (with_classes ks)) t.generics) 262145) e in
-    capped_as n (cells_of t) (nat_lt 262144 (cells_of t)) same refl
-
--- the cells are too many, or they are few, as a test says
-
-pub are_many : (t : Tables) (b : Bool) → b ≡ nat_lt most_cells (cells_of t) → b ≡ true → most_cells < cells_of t
-are_many t b e h = ltb-true most_cells (cells_of t) (sym e ∙ h)
-
-pub are_few : (t : Tables) (b : Bool) → b ≡ nat_lt most_cells (cells_of t) → b ≡ false → cells_of t ≤ most_cells
-are_few t b e h = ltb-false most_cells (cells_of t) (sym e ∙ h)

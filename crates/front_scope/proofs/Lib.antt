@@ -5,6 +5,4 @@ pub mod Calling
 pub mod Counting
 pub mod Beginning
 pub mod Keeping
-pub mod ClassCounts
-pub mod CellBounds
 pub mod MacroNames

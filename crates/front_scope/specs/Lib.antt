@@ -2,4 +2,3 @@ pub mod Scopes
 pub mod Walk
 pub mod Calls
 pub mod Cells
-pub mod Below

@@ -1,7 +1,6 @@
 // Judging top-level forms: the profile's verdict on each, with what it gives.
 #![tactic(auto)]
 
-mod below;
 mod calls;
 mod cells;
 mod counts;

@@ -10,8 +10,8 @@ use lang_dispatch::Generics;
 use std::alloc::Global;
 use std::mem;
 
-/// How many methods each generic function has.
-pub(crate) fn method_counts(alloc: Global, generics: &Generics) -> Result<Lengths, NoMemory>
+// How many methods each generic function has.
+fn method_counts(alloc: Global, generics: &Generics) -> Result<Lengths, NoMemory>
     ensures { IfOk result (λ counts. counts ≡ method_counts generics.now) }
 {
     let mut counts = Lengths::new(alloc);

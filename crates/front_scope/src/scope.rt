@@ -9,15 +9,18 @@ ghost use Rattle.front_profile.specs.Cuts.{mark_of, opened};
 ghost use Rattle.front_profile.specs.Promises.{FormStops};
 ghost use Rattle.front_profile.specs.Known.{KnownTables};
 ghost use Rattle.front_programs.specs.Calls.{Begun};
+ghost use Rattle.front_cells.specs.Counts.{IsCellCount};
+ghost use Rattle.front_scope.specs.Cells.{IsCountAfter};
 ghost use Rattle.front_scope.specs.Walk.{FormGives};
 ghost use Rattle.front_scope.specs.Scopes.{top, top_spot, with_main, rows_of, nodes_of, IsWhole, IsElaborated, IsTaken, IsFormStopped, AreInitialTables};
 
-use crate::cells::has_too_many_cells;
+use crate::cells::{Taken, count_cells};
 use crate::counts::with_added;
 use crate::first::{first_tables, reserved_words};
 use crate::judge::judge;
 use crate::mark::{close, open};
 use base::{Datum, Names, NoMemory, Origin, Reason, Stop};
+use front_cells::CellCount;
 use front_context::Bindings;
 use front_elaboration::Formed;
 use front_profile::whole_laws::{law_programs, law_suits, law_top_forms};
@@ -37,6 +40,7 @@ pub struct Scope {
     alloc: Global,
     tables: Tables,
     nodes: u64,
+    cells: CellCount,
 }
 
 impl Model for Scope {
@@ -53,9 +57,11 @@ impl Model for Scope {
     ghost view = { λ s. s.tables };
 
     ghost use Rattle.std.specs.Prelude.{◌≡◌};
+    ghost use Rattle.front_cells.specs.Counts.{IsCellCount};
     ghost use Rattle.front_scope.specs.Scopes.{nodes_of, IsWhole};
 
-    ghost invariant = { λ s. (s.nodes ≡ nodes_of s.tables) × IsWhole s.tables };
+    ghost invariant = { λ s.
+        (s.nodes ≡ nodes_of s.tables) × (IsWhole s.tables × IsCellCount s.tables.classes.rows s.tables.generics s.cells) };
 }
 
 // Where a top-level form stands: a form of a file has a site.
@@ -149,16 +155,19 @@ fn take_form<X: Expanding>(
     names: &mut Names,
     tables: &mut Tables,
     nodes: u64,
+    cells: &CellCount,
     datum: &Datum,
     origin: Origin,
     expander: &mut X,
-) -> Result<u64, Stop>
+) -> Result<Taken, Stop>
     requires good { WellFormed (length names.old) datum.now }
     requires mark { tables.old.before ≡ mark_of tables.old }
     requires nodes { nodes ≡ nodes_of tables.old }
     requires whole { IsWhole tables.old }
+    requires cells { IsCellCount tables.old.classes.rows tables.old.generics cells.now }
     ensures taken { OnOk result (IsTaken names.new origin tables.old datum.now tables.new) }
-    ensures nodes { IfOk result (λ nodes. nodes ≡ nodes_of tables.new) }
+    ensures nodes { IfOk result (λ taken. taken.nodes ≡ nodes_of tables.new) }
+    ensures cells { IfOk result (λ taken. IsCountAfter tables.new cells.now taken.cells) }
     ensures whole { OnOk result (IsWhole tables.new) }
     ensures stop { IfErr result (IsFormStopped names.new origin tables.old datum.now) }
     ensures names { Extends names.old names.new }
@@ -170,10 +179,8 @@ fn take_form<X: Expanding>(
     if nodes > MOST_NODES {
         return Err(refused(datum, Reason::ProgramTooLarge));
     }
-    if has_too_many_cells(alloc, tables, &tables.before)? {
-        return Err(refused(datum, Reason::DispatchTooLarge));
-    }
-    Ok(nodes)
+    let cells = count_cells(alloc, tables, cells, datum)?;
+    Ok(Taken { nodes, cells })
 }
 
 impl Scope {
@@ -188,10 +195,12 @@ impl Scope {
         let classes = Classes::builtin(alloc, names)?;
         let nodes = class_list_nodes(classes.rows());
         let tables = first_tables(alloc, words, classes);
+        let cells = CellCount::new(alloc, tables.classes.rows());
         Ok(Scope {
             alloc,
             tables,
             nodes,
+            cells,
         })
     }
 
@@ -220,13 +229,17 @@ impl Scope {
             names,
             &mut self.tables,
             self.nodes,
+            &self.cells,
             datum,
             origin,
             expander,
         ) {
-            Ok(nodes) => {
+            Ok(Taken { nodes, cells }) => {
                 drop(before);
                 self.nodes = nodes;
+                if let Some(cells) = cells {
+                    self.cells = cells;
+                }
                 Ok(())
             }
             Err(stop) => {

@@ -1,7 +1,8 @@
 -- The nodes of the program with the form are counted, and its cells.
 use Rattle.std.proofs.Common.{inl, inr, refl, ◌∙◌, arith}
+use Rattle.std.proofs.lemmas.Result.{err_from_is_err_and}
 use Rattle.front_scope.proofs.Counting.{counted_exactly, counted_too_many}
-use Rattle.front_scope.proofs.Keeping.{begun_here, given_whole, few_at, are_many, are_few}
+use Rattle.front_scope.proofs.Keeping.{begun_here, given_whole, was_counted, count_few, stops_at_cells}
 use Rattle.front_scope.proofs.scope.take_form.Goals as goal
 
 pub returns-then-nodes-gt-MOST_NODES-clause-stop : goal.returns-then-nodes-gt-MOST_NODES-clause-stop
@@ -20,27 +21,18 @@ returns-then-nodes-gt-MOST_NODES-clause-stop g c =
     )
     )
 
-pub has_too_many_cells-requires : goal.has_too_many_cells-requires
-has_too_many_cells-requires g c = record {
-  few = few_at c.args.tables.now c.judge_top.new.tables c.judge_top.new.tables.before c.in_ok-judge_top.ensures.grows (c.in_ok-judge_top.ensures.grows.before ∙ c.requires.mark) c.requires.whole.few;
-}
+pub count_cells-requires : goal.count_cells-requires
+count_cells-requires g c =
+    was_counted c.args.tables.now c.judge_top.new.tables c.args.cells.now c.in_ok-judge_top.ensures.grows c.requires.cells
 
-pub returns-then-branch-clause-stop : goal.returns-then-branch-clause-stop
-returns-then-branch-clause-stop g c =
+pub returns-in_err-cells-clause-stop : goal.returns-in_err-cells-clause-stop
+returns-in_err-cells-clause-stop g c =
+    let p = err_from_is_err_and c.from_residual-in_err-cells.result c.from_residual-in_err-cells.ensures.1 in
     let same = counted_exactly c.args.tables.now c.judge_top.new.tables c.judge_top.new.tables.before c.args.nodes _ c.in_ok-judge_top.ensures.grows (c.in_ok-judge_top.ensures.grows.before ∙ c.requires.mark) c.requires.nodes
     c.with_added-nodes.ensures (omega (arith, c.if-nodes-gt-MOST_NODES.false)) in
-    rw c.refused-then-branch.ensures (
-    inr (
-    inr (
-      record {
-        tables = c.judge_top.new.tables;
-        given = c.in_ok-judge_top.ensures.given;
-        small = omega (arith, same, c.if-nodes-gt-MOST_NODES.false);
-        many = are_many c.judge_top.new.tables _ c.in_ok-has_too_many_cells.ensures c.if-branch.true;
-      },
-      refl,
-    )
-    )
+    rw (p.1, p.2) (
+    stops_at_cells c.judge_top.new.names c.args.origin c.args.tables.now c.args.datum.now c.judge_top.new.tables c.in_err-cells.field-0.0 c.in_ok-judge_top.ensures.given
+    (omega (arith, same, c.if-nodes-gt-MOST_NODES.false)) c.in_err-cells.ensures.stop
     )
 
 pub returns-clause-taken : goal.returns-clause-taken
@@ -50,7 +42,7 @@ returns-clause-taken g c =
     record {
       given = c.in_ok-judge_top.ensures.given;
       small = omega (arith, same, c.if-nodes-gt-MOST_NODES.false);
-      few = are_few c.judge_top.new.tables _ c.in_ok-has_too_many_cells.ensures c.if-branch.false;
+      few = count_few c.judge_top.new.tables c.args.cells.now c.in_ok-cells.cells c.in_ok-cells.ensures.counted;
     }
 
 pub returns-clause-whole : goal.returns-clause-whole
@@ -62,7 +54,7 @@ returns-clause-whole g c =
       between = given_whole (record { first = laws.first; file = laws.file; prelude = laws.prelude }) c.args.names.now c.judge_top.new.names c.args.origin c.args.tables.now c.args.datum.now
           c.judge_top.new.tables c.requires.good c.in_ok-judge_top.ensures.names c.requires.whole.between c.in_ok-judge_top.ensures.given;
       small = omega (arith, same, c.if-nodes-gt-MOST_NODES.false);
-      few = are_few c.judge_top.new.tables _ c.in_ok-has_too_many_cells.ensures c.if-branch.false;
+      few = count_few c.judge_top.new.tables c.args.cells.now c.in_ok-cells.cells c.in_ok-cells.ensures.counted;
     }
 
 pub returns-clause-nodes : goal.returns-clause-nodes

@@ -5,6 +5,7 @@ use Rattle.front_profile.specs.declared.tables.Tables.{Tables}
 use Rattle.front_profile.specs.Marks.{TablesGrow}
 use Rattle.front_profile.specs.Cuts.{mark_of, ReachesMark, opened}
 use Rattle.front_profile.specs.bridge.Cutting.{grown_reaches, closed_grown}
+use Rattle.front_cells.specs.Counts.{IsCellCount}
 use Rattle.front_scope.specs.Scopes.{nodes_of, IsWhole}
 use Rattle.front_scope.proofs.Keeping.{opened_whole}
 use Rattle.front_scope.proofs.scope.Scope.form.Goals as goal
@@ -18,13 +19,17 @@ take_form-requires-clause-nodes g c =
 
 pub take_form-requires-clause-whole : goal.take_form-requires-clause-whole
 take_form-requires-clause-whole g c =
-    subst (λ (t : Tables). IsWhole t) (sym c.in_ok-before.ensures.opened) (opened_whole c.self.inside.tables c.self.invariant.1)
+    subst (λ (t : Tables). IsWhole t) (sym c.in_ok-before.ensures.opened) (opened_whole c.self.inside.tables c.self.invariant.1.0)
+
+pub take_form-requires-clause-cells : goal.take_form-requires-clause-cells
+take_form-requires-clause-cells g c =
+    subst (λ (t : Tables). IsCellCount t.classes.rows t.generics c.self.inside.cells) (sym c.in_ok-before.ensures.opened) c.self.invariant.1.1
 
 pub close-requires-clause-built_in : goal.close-requires-clause-built_in
 close-requires-clause-built_in g c =
     let grown : TablesGrow (opened c.self.inside.tables) c.take_form.new.tables =
     subst (λ (t : Tables). TablesGrow t c.take_form.new.tables) c.in_ok-before.ensures.opened c.take_form.ensures.grows in
-    omega (arith, ap (λ (m : Mark). m.classes) grown.before, c.self.invariant.1.between.whole.sound.classes.hierarchy.enough)
+    omega (arith, ap (λ (m : Mark). m.classes) grown.before, c.self.invariant.1.0.between.whole.sound.classes.hierarchy.enough)
 
 pub close-requires-clause-reaches : goal.close-requires-clause-reaches
 close-requires-clause-reaches g c =
@@ -38,8 +43,8 @@ invariant_of-self-in-Err g c =
     subst (λ (t : Tables). TablesGrow t c.take_form.new.tables) c.in_ok-before.ensures.opened c.take_form.ensures.grows in
     let same : c.close.new.tables ≡ c.self.inside.tables =
     c.close.ensures
-    ∙ closed_grown c.self.inside.tables c.take_form.new.tables _ grown c.self.invariant.1.between.whole.sound.classes.hierarchy.classes.paired c.in_ok-before.ensures.before in
-    subst (λ (t : Tables). (c.self.inside.nodes ≡ nodes_of t) × IsWhole t) (sym same) c.self.invariant
+    ∙ closed_grown c.self.inside.tables c.take_form.new.tables _ grown c.self.invariant.1.0.between.whole.sound.classes.hierarchy.classes.paired c.in_ok-before.ensures.before in
+    subst (λ (t : Tables). (c.self.inside.nodes ≡ nodes_of t) × (IsWhole t × IsCellCount t.classes.rows t.generics c.self.inside.cells)) (sym same) c.self.invariant
 
 pub returns-in-Err-clause-unchanged : goal.returns-in-Err-clause-unchanged
 returns-in-Err-clause-unchanged g c =
@@ -47,5 +52,5 @@ returns-in-Err-clause-unchanged g c =
     subst (λ (t : Tables). TablesGrow t c.take_form.new.tables) c.in_ok-before.ensures.opened c.take_form.ensures.grows in
     let same : c.close.new.tables ≡ c.self.inside.tables =
     c.close.ensures
-    ∙ closed_grown c.self.inside.tables c.take_form.new.tables _ grown c.self.invariant.1.between.whole.sound.classes.hierarchy.classes.paired c.in_ok-before.ensures.before in
+    ∙ closed_grown c.self.inside.tables c.take_form.new.tables _ grown c.self.invariant.1.0.between.whole.sound.classes.hierarchy.classes.paired c.in_ok-before.ensures.before in
     same ∙ c.self.view_is

@@ -1,0 +1,5 @@
+pub mod Flags
+pub mod Copies
+pub mod Groups
+pub mod Tuples
+pub mod Counts
