@@ -20,11 +20,15 @@ use Rattle.lang_meaning.specs.BuiltIn.{built_in_precedence, built_in_slots}
 use Rattle.lang_meaning.specs.Facts.{is_one, is_plain_slot, is_row, begins_with_built_in, is_whole}
 use Rattle.lang_meaning.specs.Form.{Form}
 use Rattle.lang_meaning.specs.ProgramCounts.{slot_nodes, class_nodes}
+use Rattle.lang_meaning.specs.Cells.{generic_cells}
+use Rattle.lang_dispatch.specs.OfClasses.{with_classes}
 use Rattle.lang_classes.specs.InheritedClasses.{Hierarchy}
 use Rattle.lang_classes.specs.InheritedBuiltIn.{AreBuiltIn}
 use Rattle.front_profile.specs.declared.tables.Tables.{Tables}
 use Rattle.front_profile.specs.Marks.{HasMore, AreThere, TablesGrow}
-use Rattle.front_profile.specs.bridge.Growing.{tables_grow_reflexive, grows_at_end}
+use Rattle.front_profile.specs.bridge.Growing.{first_then, tables_grow_reflexive, grows_at_end}
+use Rattle.front_profile.specs.bridge.CutGenerics.{same_rows, same_generics}
+use Rattle.front_profile.specs.declared.mark.Mark.{Mark}
 use Rattle.front_profile.specs.Nodes.{StaticContext, Standing, stands}
 use Rattle.front_profile.specs.Judged.{Elaborates}
 use Rattle.front_profile.specs.Rows.{node}
@@ -35,7 +39,7 @@ use Rattle.front_profile.specs.Cuts.{mark_of, opened}
 use Rattle.front_programs.specs.Calls.{Begun}
 use Rattle.front_cells.specs.declared.count.CellCount.{CellCount}
 use Rattle.front_cells.specs.Counts.{all_cells, IsCellCount, HasMoreMethods, WasCellCount}
-use Rattle.front_scope.specs.Cells.{IsCountAfter, StopsAtCells}
+use Rattle.front_scope.specs.Cells.{FewAt, IsCountBefore, IsCountAfter, StopsAtCells}
 use Rattle.front_scope.specs.Scopes.{rows_of, nodes_of, cells_of, most_nodes, most_cells, top, first_tables, IsElaborated, IsFormStopped, AreInitialTables, IsWhole}
 
 -- what is known of top-level forms
@@ -225,13 +229,61 @@ grown_generics (k ∷ gs) (l ∷ hs) there zero g h a b =
     subst (λ (h : GenericRow). HasMoreMethods g h) second (subst (λ (g : GenericRow). HasMoreMethods g l) first (grown_methods k l there.0))
 grown_generics (k ∷ gs) (l ∷ hs) there (suc i) g h a b = grown_generics gs hs there.1 i g h a b
 
-pub was_counted : (s t : Tables) (count : CellCount) → TablesGrow s t → IsCellCount s.classes.rows s.generics count → WasCellCount t.classes.rows t.generics count
-was_counted s t count grown counted = record {
-  rows_then = s.classes.rows;
-  generics_then = s.generics;
+more_then : (g h k : GenericRow) → HasMore g h → HasMore h k → HasMore g k
+more_then g h k a b = (b.0 ∙ a.0, b.1 ∙ a.1, b.2 ∙ a.2, first_then g.methods h.methods k.methods a.3 b.3)
+
+there_then : (gs hs ks : List GenericRow) → AreThere gs hs → AreThere hs ks → AreThere gs ks
+there_then [] hs ks a b = tt
+there_then (g ∷ gs) [] ks a b = absurd a
+there_then (g ∷ gs) (h ∷ hs) [] a b = absurd b
+there_then (g ∷ gs) (h ∷ hs) (k ∷ ks) a b = (more_then g h k a.0 b.0, there_then gs hs ks a.1 b.1)
+
+-- a count of tables that stand in front of these
+pub was_counted : (t : Tables) (count : CellCount) → IsCountBefore t count → WasCellCount t.classes.rows t.generics count
+was_counted t count b = record {
+  rows_then = b.rows;
+  generics_then = b.generics;
+  counted = b.counted;
+  classes = b.classes_in_front;
+  generics = grown_generics b.generics t.generics b.generics_in_front;
+}
+
+pub before_grown : (s t : Tables) (count : CellCount) → TablesGrow s t → IsCountBefore s count → IsCountBefore t count
+before_grown s t count grown b = record {
+  rows = b.rows;
+  generics = b.generics;
+  counted = b.counted;
+  classes_in_front = first_then b.rows s.classes.rows t.classes.rows b.classes_in_front grown.classes;
+  generics_in_front = there_then b.generics s.generics t.generics b.generics_in_front grown.generics;
+}
+
+pub before_opened : (s : Tables) (count : CellCount) → IsCountBefore s count → IsCountBefore (opened s) count
+before_opened s count b = record {
+  rows = b.rows;
+  generics = b.generics;
+  counted = b.counted;
+  classes_in_front = b.classes_in_front;
+  generics_in_front = b.generics_in_front;
+}
+
+pub counted_now : (t : Tables) (count : CellCount) → IsCellCount t.classes.rows t.generics count → IsCountBefore t count
+counted_now t count counted = let g = tables_grow_reflexive t in record {
+  rows = t.classes.rows;
+  generics = t.generics;
   counted = counted;
-  classes = grown.classes;
-  generics = grown_generics s.generics t.generics grown.generics;
+  classes_in_front = g.classes;
+  generics_in_front = g.generics;
+}
+
+-- a form that defines nothing leaves the cells as few as they were
+pub few_at : (s t : Tables) (mark : Mark) → TablesGrow s t → mark ≡ mark_of s → cells_of s ≤ most_cells → FewAt mark t
+few_at s t mark g m few = record {
+  few = λ classes methods.
+      let rows : t.classes.rows ≡ s.classes.rows = same_rows s.classes.rows t.classes.rows g.classes (classes ∙ ap (λ (k : Mark). k.classes) m) in
+      let generics : t.generics ≡ s.generics = same_generics s.generics t.generics g.generics (methods ∙ ap (λ (k : Mark). k.methods) m) in
+      let same : cells_of t ≡ cells_of s =
+      ap (λ cs. sum_by (generic_cells (with_classes cs)) t.generics) rows ∙ ap (λ gs. sum_by (generic_cells (with_classes s.classes.rows)) gs) generics in
+      omega (arith, same, few);
 }
 
 pub first_count : (t : Tables) (count : CellCount) → t ≡ first_tables t.words t.classes → IsCellCount t.classes.rows [] count → IsCellCount t.classes.rows t.generics count
@@ -240,8 +292,13 @@ first_count t count e h = subst (λ (gs : List GenericRow). IsCellCount t.classe
 -- what is counted is few, and a form that stops at its cells has too many
 
 pub count_few : (t : Tables) (old : CellCount) (new : Option CellCount) → IsCountAfter t old new → cells_of t ≤ most_cells
-count_few t old None h = h.few
+count_few t old None h = h.0
 count_few t old (Some new) h = h.few
+
+pub few_rows : (t : Tables) (cs : List ClassRow) (gs : List GenericRow) → cs ≡ t.classes.rows → gs ≡ t.generics → all_cells cs gs ≤ most_cells → cells_of t ≤ most_cells
+few_rows t cs gs e f h =
+    let classes : all_cells t.classes.rows gs ≤ most_cells = subst (λ ks. all_cells ks gs ≤ most_cells) e h in
+    subst (λ hs. all_cells t.classes.rows hs ≤ most_cells) f classes
 
 pub too_many : (t : Tables) (cs : List ClassRow) (gs : List GenericRow) → cs ≡ t.classes.rows → gs ≡ t.generics → most_cells < all_cells cs gs → most_cells < cells_of t
 too_many t cs gs e f h =

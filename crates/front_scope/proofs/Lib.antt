@@ -4,5 +4,7 @@ pub mod Walked
 pub mod Calling
 pub mod Counting
 pub mod Beginning
+pub mod ClassCounts
+pub mod CellBounds
 pub mod Keeping
 pub mod MacroNames

@@ -1,4 +1,5 @@
 pub mod Scopes
 pub mod Walk
 pub mod Calls
+pub mod Below
 pub mod Cells

@@ -1,6 +1,7 @@
 // Judging top-level forms: the profile's verdict on each, with what it gives.
 #![tactic(auto)]
 
+mod below;
 mod calls;
 mod cells;
 mod counts;
@@ -9,6 +10,7 @@ mod functions;
 mod judge;
 mod keep;
 mod mark;
+mod quick;
 pub mod scope;
 
 pub use scope::Scope;

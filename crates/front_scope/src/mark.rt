@@ -11,7 +11,7 @@ use std::alloc::Global;
 use std::mem;
 
 // How many methods each generic function has.
-fn method_counts(alloc: Global, generics: &Generics) -> Result<Lengths, NoMemory>
+pub(crate) fn method_counts(alloc: Global, generics: &Generics) -> Result<Lengths, NoMemory>
     ensures { IfOk result (λ counts. counts ≡ method_counts generics.now) }
 {
     let mut counts = Lengths::new(alloc);

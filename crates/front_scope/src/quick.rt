@@ -1,6 +1,6 @@
-// The cells of dispatch tables: they are counted where they may have become too many.
+// A bound on the cells of dispatch tables that is quickly told, by how many classes stand below each.
 
-ghost use Rattle.std.specs.Prelude.{◌≡◌, ◌==◌, ◌≤◌, ◌&&◌, true, nat_lt, length, filter, slice_index_or, Some, IfOk, IfSome};
+ghost use Rattle.std.specs.Prelude.{◌≡◌, ◌==◌, ◌≤◌, ◌&&◌, true, length, filter, slice_index_or, Some, IfOk, IfSome};
 ghost use Rattle.std.specs.List.{range_with_len, sum_by};
 ghost use Rattle.std.specs.Str.{bytes_eq};
 ghost use Rattle.lang_meaning.specs.Cells.{groups, is_specialised, generic_cells};
@@ -197,19 +197,14 @@ fn are_few(tables: &Tables, below: &ClassCounts) -> bool
     }
 }
 
-/// Whether the dispatch tables have too many cells, where they had not at the mark. The cells themselves are counted only
-/// where a form has defined something and there may be too many.
-pub(crate) fn has_too_many_cells(
-    alloc: Global,
-    tables: &Tables,
-    mark: &Mark,
-) -> Result<bool, NoMemory>
+/// Whether it is quickly told that the dispatch tables have no more cells than they may, where they had not at the mark: a form has defined nothing since,
+/// or a bound that is no less than them is within the limit.
+pub(crate) fn are_told_few(alloc: Global, tables: &Tables, mark: &Mark) -> Result<bool, NoMemory>
     requires few { FewAt mark.now tables.now }
-    ensures { IfOk result (λ many. many ≡ nat_lt most_cells (cells_of tables.now)) }
+    ensures { IfOk result (λ few. few ≡ true → cells_of tables.now ≤ most_cells) }
 {
-    if defines_nothing(alloc, tables, mark)? || are_surely_few(alloc, tables)? {
-        return Ok(false);
+    if defines_nothing(alloc, tables, mark)? {
+        return Ok(true);
     }
-    let cells = tables.generics.cells(alloc, tables.classes.rows())?;
-    Ok(cells > MOST_CELLS)
+    are_surely_few(alloc, tables)
 }

@@ -9,8 +9,7 @@ ghost use Rattle.front_profile.specs.Cuts.{mark_of, opened};
 ghost use Rattle.front_profile.specs.Promises.{FormStops};
 ghost use Rattle.front_profile.specs.Known.{KnownTables};
 ghost use Rattle.front_programs.specs.Calls.{Begun};
-ghost use Rattle.front_cells.specs.Counts.{IsCellCount};
-ghost use Rattle.front_scope.specs.Cells.{IsCountAfter};
+ghost use Rattle.front_scope.specs.Cells.{IsCountBefore, IsCountAfter};
 ghost use Rattle.front_scope.specs.Walk.{FormGives};
 ghost use Rattle.front_scope.specs.Scopes.{top, top_spot, with_main, rows_of, nodes_of, IsWhole, IsElaborated, IsTaken, IsFormStopped, AreInitialTables};
 
@@ -57,11 +56,11 @@ impl Model for Scope {
     ghost view = { λ s. s.tables };
 
     ghost use Rattle.std.specs.Prelude.{◌≡◌};
-    ghost use Rattle.front_cells.specs.Counts.{IsCellCount};
+    ghost use Rattle.front_scope.specs.Cells.{IsCountBefore};
     ghost use Rattle.front_scope.specs.Scopes.{nodes_of, IsWhole};
 
     ghost invariant = { λ s.
-        (s.nodes ≡ nodes_of s.tables) × (IsWhole s.tables × IsCellCount s.tables.classes.rows s.tables.generics s.cells) };
+        (s.nodes ≡ nodes_of s.tables) × (IsWhole s.tables × IsCountBefore s.tables s.cells) };
 }
 
 // Where a top-level form stands: a form of a file has a site.
@@ -164,7 +163,7 @@ fn take_form<X: Expanding>(
     requires mark { tables.old.before ≡ mark_of tables.old }
     requires nodes { nodes ≡ nodes_of tables.old }
     requires whole { IsWhole tables.old }
-    requires cells { IsCellCount tables.old.classes.rows tables.old.generics cells.now }
+    requires cells { IsCountBefore tables.old cells.now }
     ensures taken { OnOk result (IsTaken names.new origin tables.old datum.now tables.new) }
     ensures nodes { IfOk result (λ taken. taken.nodes ≡ nodes_of tables.new) }
     ensures cells { IfOk result (λ taken. IsCountAfter tables.new cells.now taken.cells) }

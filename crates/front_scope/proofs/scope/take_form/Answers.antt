@@ -2,7 +2,7 @@
 use Rattle.std.proofs.Common.{inl, inr, refl, ◌∙◌, arith}
 use Rattle.std.proofs.lemmas.Result.{err_from_is_err_and}
 use Rattle.front_scope.proofs.Counting.{counted_exactly, counted_too_many}
-use Rattle.front_scope.proofs.Keeping.{begun_here, given_whole, was_counted, count_few, stops_at_cells}
+use Rattle.front_scope.proofs.Keeping.{begun_here, given_whole, few_at, before_grown, count_few, stops_at_cells}
 use Rattle.front_scope.proofs.scope.take_form.Goals as goal
 
 pub returns-then-nodes-gt-MOST_NODES-clause-stop : goal.returns-then-nodes-gt-MOST_NODES-clause-stop
@@ -21,9 +21,14 @@ returns-then-nodes-gt-MOST_NODES-clause-stop g c =
     )
     )
 
-pub count_cells-requires : goal.count_cells-requires
-count_cells-requires g c =
-    was_counted c.args.tables.now c.judge_top.new.tables c.args.cells.now c.in_ok-judge_top.ensures.grows c.requires.cells
+pub count_cells-requires-clause-few : goal.count_cells-requires-clause-few
+count_cells-requires-clause-few g c =
+    few_at c.args.tables.now c.judge_top.new.tables c.judge_top.new.tables.before c.in_ok-judge_top.ensures.grows
+    (c.in_ok-judge_top.ensures.grows.before ∙ c.requires.mark) c.requires.whole.few
+
+pub count_cells-requires-clause-before : goal.count_cells-requires-clause-before
+count_cells-requires-clause-before g c =
+    before_grown c.args.tables.now c.judge_top.new.tables c.args.cells.now c.in_ok-judge_top.ensures.grows c.requires.cells
 
 pub returns-in_err-cells-clause-stop : goal.returns-in_err-cells-clause-stop
 returns-in_err-cells-clause-stop g c =

@@ -1,13 +1,14 @@
 -- Where a form begins the tables are as whole as in front of it, and after a stop they are as they were.
-use Rattle.std.proofs.Common.{◌≡◌, refl, ap, subst, sym, ◌∙◌, arith}
+use Rattle.std.proofs.Common.{◌≡◌, Option, refl, ap, subst, sym, ◌∙◌, arith}
 use Rattle.front_profile.specs.declared.mark.Mark.{Mark}
 use Rattle.front_profile.specs.declared.tables.Tables.{Tables}
 use Rattle.front_profile.specs.Marks.{TablesGrow}
 use Rattle.front_profile.specs.Cuts.{mark_of, ReachesMark, opened}
 use Rattle.front_profile.specs.bridge.Cutting.{grown_reaches, closed_grown}
-use Rattle.front_cells.specs.Counts.{IsCellCount}
+use Rattle.front_scope.specs.Cells.{IsCountBefore, IsCountAfter}
 use Rattle.front_scope.specs.Scopes.{nodes_of, IsWhole}
-use Rattle.front_scope.proofs.Keeping.{opened_whole}
+use Rattle.front_scope.proofs.Keeping.{opened_whole, before_opened, counted_now}
+use Rattle.front_cells.specs.declared.count.CellCount.{CellCount}
 use Rattle.front_scope.proofs.scope.Scope.form.Goals as goal
 
 pub take_form-requires-clause-mark : goal.take_form-requires-clause-mark
@@ -23,7 +24,8 @@ take_form-requires-clause-whole g c =
 
 pub take_form-requires-clause-cells : goal.take_form-requires-clause-cells
 take_form-requires-clause-cells g c =
-    subst (λ (t : Tables). IsCellCount t.classes.rows t.generics c.self.inside.cells) (sym c.in_ok-before.ensures.opened) c.self.invariant.1.1
+    subst (λ (t : Tables). IsCountBefore t c.self.inside.cells) (sym c.in_ok-before.ensures.opened)
+    (before_opened c.self.inside.tables c.self.inside.cells c.self.invariant.1.1)
 
 pub close-requires-clause-built_in : goal.close-requires-clause-built_in
 close-requires-clause-built_in g c =
@@ -44,7 +46,7 @@ invariant_of-self-in-Err g c =
     let same : c.close.new.tables ≡ c.self.inside.tables =
     c.close.ensures
     ∙ closed_grown c.self.inside.tables c.take_form.new.tables _ grown c.self.invariant.1.0.between.whole.sound.classes.hierarchy.classes.paired c.in_ok-before.ensures.before in
-    subst (λ (t : Tables). (c.self.inside.nodes ≡ nodes_of t) × (IsWhole t × IsCellCount t.classes.rows t.generics c.self.inside.cells)) (sym same) c.self.invariant
+    subst (λ (t : Tables). (c.self.inside.nodes ≡ nodes_of t) × (IsWhole t × IsCountBefore t c.self.inside.cells)) (sym same) c.self.invariant
 
 pub returns-in-Err-clause-unchanged : goal.returns-in-Err-clause-unchanged
 returns-in-Err-clause-unchanged g c =
@@ -54,3 +56,9 @@ returns-in-Err-clause-unchanged g c =
     c.close.ensures
     ∙ closed_grown c.self.inside.tables c.take_form.new.tables _ grown c.self.invariant.1.0.between.whole.sound.classes.hierarchy.classes.paired c.in_ok-before.ensures.before in
     same ∙ c.self.view_is
+
+pub invariant_of-self-in-Some : goal.invariant_of-self-in-Some
+invariant_of-self-in-Some g c =
+    let is = c.in-Ok.ensures in
+    let after = subst (λ (o : Option CellCount). IsCountAfter c.take_form.new.tables c.self.inside.cells o) c.in-Some.is is.cells in
+    (is.nodes, (is.whole, counted_now c.take_form.new.tables c.in-Some.cells after))

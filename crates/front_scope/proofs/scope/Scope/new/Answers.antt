@@ -3,7 +3,7 @@ use Rattle.std.proofs.Common.{List, [], subst, rules}
 use Rattle.lang_meaning.specs.declared.program.ClassRow.{ClassRow}
 use Rattle.front_cells.specs.Counts.{IsCellCount}
 use Rattle.front_scope.proofs.Beginning.{is_first}
-use Rattle.front_scope.proofs.Keeping.{first_is_whole, first_count}
+use Rattle.front_scope.proofs.Keeping.{first_is_whole, first_count, counted_now}
 use Rattle.front_scope.proofs.scope.Scope.new.Goals as goal
 
 pub returns-clause-first : goal.returns-clause-first
@@ -21,7 +21,8 @@ invariant_of-result c =
       whole.0,
       (
         whole.1,
-        first_count c.first_tables-tables.result c.new-cells.result first.nothing_else
-            (subst (λ (cs : List ClassRow). IsCellCount cs [] c.new-cells.result) c.rows-2.ensures.rows c.new-cells.ensures),
+        counted_now c.first_tables-tables.result c.new-cells.result
+            (first_count c.first_tables-tables.result c.new-cells.result first.nothing_else
+            (subst (λ (cs : List ClassRow). IsCellCount cs [] c.new-cells.result) c.rows-2.ensures.rows c.new-cells.ensures)),
       ),
     )
