@@ -19,7 +19,9 @@ use Rattle.flat_stores.specs.Laws.{LawOfStores}
 use Rattle.flat_stores.proofs.Whole.{CanBeMadeFlat, whole_can}
 
 module _ {lambdas : List FlatProcedure} where
-  object_alike : {ks : List VariableKind} {one other : Option Object} {t : Option (List Captured)} → ObjectsAlike lambdas ks one other t → AreAlike one other
+  object_alike :
+      {ks : List VariableKind} {one other : Option Object} {t : Option (List Captured)}
+      → ObjectsAlike lambdas ks one other t → AreAlike one other
   object_alike (inl x) = inl x.same
   object_alike (inr x) = inr (record {
     required = x.required;
@@ -44,7 +46,8 @@ law_of_stores law names program whole input k limit =
     let can : CanBeMadeFlat program = whole_can law program whole in
     let lambdas : List FlatProcedure = (flat_program program).lambdas in
     let count = functions_of_procedures program.procedures in
-    beside_alike (mains_alike names program (flat_procedures 0 program.procedures) lambdas (flat_mains count program.main) limit can.procedures
+    beside_alike (mains_alike names program (flat_procedures 0 program.procedures) lambdas
+    (flat_mains count program.main) limit can.procedures
     k count program.main can.main
     nil (alone []) (first_state (objects_at_start names program) input)
     (record { state = first_state (objects_at_start names program) input; frame = []; captured = [] })

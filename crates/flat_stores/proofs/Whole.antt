@@ -9,7 +9,8 @@ use Rattle.lang_meaning.specs.Facts.{is_whole}
 use Rattle.lang_meaning.specs.Form.{Form, parameters}
 use Rattle.lang_meaning.specs.Standing as standing
 use Rattle.flat_language.specs.declared.program.FlatProcedure.{FlatProcedure}
-use Rattle.flat_language.specs.Flatten.{functions, functions_of_procedures, flat_procedures, body_scope, inner_procedures, inner_of_procedures, inner_of_mains, flat_program}
+use Rattle.flat_language.specs.Flatten.{functions, functions_of_procedures, flat_procedures, body_scope}
+use Rattle.flat_language.specs.Flatten.{inner_procedures, inner_of_procedures, inner_of_mains, flat_program}
 use Rattle.flat_language.specs.Scope.{no_scope}
 use Rattle.flat_language.specs.bridge.Counted.{joined, all_counted}
 use Rattle.flat_language.proofs.Alike.{Sound}
@@ -26,25 +27,30 @@ inside n q = inner_procedures (body_scope q.required q.rest q.body no_scope) n q
 procedures_counted : (n : ℕ) (qs : List Procedure) → length (inner_of_procedures n qs) ≡ functions_of_procedures qs
 procedures_counted n [] = refl
 procedures_counted n (q ∷ qs) =
-    joined (inside n q) _ _ _ (all_counted (body_scope q.required q.rest q.body no_scope) n q.body) (procedures_counted (n + functions q.body) qs)
+    joined (inside n q) _ _ _ (all_counted (body_scope q.required q.rest q.body no_scope) n q.body)
+    (procedures_counted (n + functions q.body) qs)
 
 -- the procedures of a program that can be made flat, one after another
 abbrev SoundProcedures : List FlatProcedure → ℕ → List Procedure → Type 0
 SoundProcedures lambdas n [] = ⊤
 SoundProcedures lambdas n (q ∷ qs) =
-    Sound lambdas (body_scope q.required q.rest q.body no_scope) n q.body × SoundProcedures lambdas (n + functions q.body) qs
+    Sound lambdas (body_scope q.required q.rest q.body no_scope) n q.body
+    × SoundProcedures lambdas (n + functions q.body) qs
 
 module _ (lambdas : List FlatProcedure) where
   mains_sound :
-      (n : ℕ) (fs : List Form) → AllOf (λ f. IsBoundIn (standing.alone [] false) f) fs → Placed lambdas n (inner_of_mains n fs)
+      (n : ℕ) (fs : List Form) → AllOf (λ f. IsBoundIn (standing.alone [] false) f) fs
+      → Placed lambdas n (inner_of_mains n fs)
       → SoundMains lambdas n fs
   mains_sound n [] bound placed = tt
   mains_sound n (f ∷ fs) bound placed =
       let front = inner_procedures no_scope n f in
       let behind = inner_of_mains (n + functions f) fs in (
-        sounds (standing.alone [] false) no_scope n f (fit_alone [] false f) (own_fine [] false f bound.0.itself no_scope refl)
+        sounds (standing.alone [] false) no_scope n f (fit_alone [] false f)
+            (own_fine [] false f bound.0.itself no_scope refl)
             (placed_left front behind placed),
-        mains_sound (n + functions f) fs bound.1 (placed_right front behind (functions f) (all_counted no_scope n f) placed),
+        mains_sound (n + functions f) fs bound.1
+            (placed_right front behind (functions f) (all_counted no_scope n f) placed),
       )
 
   procedures_sound :
@@ -54,8 +60,10 @@ module _ (lambdas : List FlatProcedure) where
   procedures_sound n (q ∷ qs) bound placed =
       let scope = body_scope q.required q.rest q.body no_scope in
       let behind = inner_of_procedures (n + functions q.body) qs in (
-        sounds (standing.alone (parameters q.required q.rest) bound.0.0) scope n q.body (fit_alone (parameters q.required q.rest) bound.0.0 q.body)
-            (own_fine (parameters q.required q.rest) bound.0.0 q.body bound.0.1.itself no_scope refl) (placed_left (inside n q) behind placed),
+        sounds (standing.alone (parameters q.required q.rest) bound.0.0) scope n q.body
+            (fit_alone (parameters q.required q.rest) bound.0.0 q.body)
+            (own_fine (parameters q.required q.rest) bound.0.0 q.body bound.0.1.itself no_scope refl)
+            (placed_left (inside n q) behind placed),
         procedures_sound (n + functions q.body) qs bound.1
             (placed_right (inside n q) behind (functions q.body) (all_counted scope n q.body) placed),
       )
@@ -68,7 +76,10 @@ module _ (lambdas : List FlatProcedure) where
   procedures_match n (q ∷ qs) sound (suc i) = procedures_match (n + functions q.body) qs sound.1 i
 
 pub record CanBeMadeFlat (program : ProgramRows) : Type 0 where
-  pub procedures : (i : ℕ) → ProceduresMatch (flat_program program).lambdas (slice_get program.procedures i) (slice_get (flat_procedures 0 program.procedures) i)
+  pub procedures :
+      (i : ℕ)
+      → ProceduresMatch (flat_program program).lambdas (slice_get program.procedures i)
+      (slice_get (flat_procedures 0 program.procedures) i)
   pub main : SoundMains (flat_program program).lambdas (functions_of_procedures program.procedures) program.main
 
 pub whole_can : LawOfNames → (program : ProgramRows) → is_whole program ≡ true → CanBeMadeFlat program
@@ -78,10 +89,12 @@ whole_can law program whole =
     let inner : List FlatProcedure = inner_of_procedures 0 program.procedures in
     let in_mains : List FlatProcedure = inner_of_mains count program.main in
     let lambdas : List FlatProcedure = inner ++ in_mains in
-    let all : Placed lambdas 0 lambdas = record { at = λ j q h. let e : 0 + j ≡ j = omega arith in ap (λ m. slice_get lambdas m) e ∙ h } in
+    let all : Placed lambdas 0 lambdas =
+    record { at = λ j q h. let e : 0 + j ≡ j = omega arith in ap (λ m. slice_get lambdas m) e ∙ h } in
     let placed : Placed lambdas count in_mains =
     (let e : 0 + count ≡ count = omega arith in
-    subst (λ m. Placed lambdas m in_mains) e (placed_right inner in_mains count (procedures_counted 0 program.procedures) all)) in
+    subst (λ m. Placed lambdas m in_mains) e
+    (placed_right inner in_mains count (procedures_counted 0 program.procedures) all)) in
     record {
       procedures = procedures_match lambdas 0 program.procedures
           (procedures_sound lambdas 0 program.procedures bound.procedures (placed_left inner in_mains all));

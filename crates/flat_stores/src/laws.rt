@@ -4,8 +4,8 @@ ghost use Rattle.flat_stores.specs.Laws.{LawOfStores};
 
 use lang_meaning::laws::law_names;
 
-/// A program that is made flat leaves the objects that it left before, but that where one store has a closure, the other
-/// has the function of its procedure.
+/// A program that is made flat leaves the objects that it left before, but that where one store has a closure, the
+/// other has the function of its procedure.
 pub fn law_stores()
     ensures { LawOfStores }
 {

@@ -1,4 +1,4 @@
--- Stores that are the same object by object, but that where one has a closure, the other one has a function of a procedure.
+-- Stores that are the same object by object, but that where one has a closure, the other has a procedure's function.
 use Rattle.std.specs.Prelude.{◌≡◌, ◌⊎◌, ℕ, List, length, Option, Some, slice_get}
 use Rattle.lang_meaning.specs.Form.{Form}
 use Rattle.lang_meaning.specs.Objects.{Object, Environment, closure, function}
