@@ -1,8 +1,6 @@
 -- Values that are functions are applied as such.
-use Rattle.std.proofs.Common.{◌≡◌, Global, ℕ, List, Option, Some, None, refl, ap, sym, ◌∙◌, true, false}
+use Rattle.std.proofs.Common.{◌≡◌, ℕ, List, Option, Some, None, refl, ap, sym, ◌∙◌, true, false}
 use Rattle.std.specs.Prelude.{option_map}
-use Rattle.std.specs.declared.rc.Rc.{Rc}
-use Rattle.base.specs.declared.lists.ItemList.{ItemList}
 use Rattle.lang_meaning.specs.Values.{Value}
 use Rattle.lang_meaning.specs.State.{DynamicContext}
 use Rattle.lang_meaning.specs.Objects.{function_class}
@@ -43,7 +41,7 @@ generic_there s w o n x e = record {
       ∙ ap (λ p. apply_object t (option_map (object_of names) (Some p)) (captured_in names (Some p)) (value_of_word names w) vs level around frames (seen names s b)) e;
 }
 
-pub closure_there : (s : Store) (w : Word) (o : Object) (n : ℕ) (cs shared : Rc (ItemList Captured) Global) → IsFetched s w (Some o) → o ≡ Closure n cs → shared.value ≡ cs.value → IsFunctionValue s w (kind.Closure n shared)
+pub closure_there : (s : Store) (w : Word) (o : Object) (n : ℕ) (cs shared : List Captured) → IsFetched s w (Some o) → o ≡ Closure n cs → shared ≡ cs → IsFunctionValue s w (kind.Closure n shared)
 closure_there s w o n cs shared x e h = record {
   applies = λ names t b vs level around frames.
       fetched_applied s w (Some o) names t b vs level around frames x
@@ -52,7 +50,7 @@ closure_there s w o n cs shared x e h = record {
 }
 
 -- what is no function
-nothing_applied : (names : List (List ℕ)) (o : Object) → ((n : ℕ) → o ≡ Function n → ⊥) → ((n : ℕ) (cs : Rc (ItemList Captured) Global) → o ≡ Closure n cs → ⊥) → ((g : ℕ) → o ≡ Generic g → ⊥)
+nothing_applied : (names : List (List ℕ)) (o : Object) → ((n : ℕ) → o ≡ Function n → ⊥) → ((n : ℕ) (cs : List Captured) → o ≡ Closure n cs → ⊥) → ((g : ℕ) → o ≡ Generic g → ⊥)
     → (t : Setting) (captured : Option (List flat.Captured)) (f : Value) (vs : List Value)
     → apply_object t (Some (object_of names o)) captured f vs ≡ signal_domain t f function_class
 nothing_applied names (Function n) f g h t captured v vs = absurd (f n refl)
@@ -61,7 +59,7 @@ nothing_applied names (Generic n) f g h t captured v vs = absurd (h n refl)
 nothing_applied names o f g h t captured v vs = refl
 
 pub function_else : (s : Store) (w : Word) (o : Object) → IsFetched s w (Some o) → ((n : ℕ) → o ≡ Function n → ⊥)
-    → ((n : ℕ) (cs : Rc (ItemList Captured) Global) → o ≡ Closure n cs → ⊥) → ((g : ℕ) → o ≡ Generic g → ⊥) → IsFunctionValue s w kind.NoFunction
+    → ((n : ℕ) (cs : List Captured) → o ≡ Closure n cs → ⊥) → ((g : ℕ) → o ≡ Generic g → ⊥) → IsFunctionValue s w kind.NoFunction
 function_else s w o x f g h = record {
   applies = λ names t b vs level around frames.
       fetched_applied s w (Some o) names t b vs level around frames x
@@ -77,17 +75,17 @@ function_absent s w x = record {
 pub is_procedure : (s : Store) (w : Word) (o : Object) (n : ℕ) → IsFetched s w (Some o) → o ≡ Function n → IsFunctionOrNot s w true
 is_procedure s w o n x e = record { seen = λ names b. ap is_function (x.object names b) ∙ rw e refl }
 
-pub is_closure : (s : Store) (w : Word) (o : Object) (n : ℕ) (cs : Rc (ItemList Captured) Global) → IsFetched s w (Some o) → o ≡ Closure n cs → IsFunctionOrNot s w true
+pub is_closure : (s : Store) (w : Word) (o : Object) (n : ℕ) (cs : List Captured) → IsFetched s w (Some o) → o ≡ Closure n cs → IsFunctionOrNot s w true
 is_closure s w o n cs x e = record { seen = λ names b. ap is_function (x.object names b) ∙ rw e refl }
 
 pub is_generic : (s : Store) (w : Word) (o : Object) (g : ℕ) → IsFetched s w (Some o) → o ≡ Generic g → IsFunctionOrNot s w true
 is_generic s w o g x e = record { seen = λ names b. ap is_function (x.object names b) ∙ rw e refl }
 
 pub is_none : (s : Store) (w : Word) (o : Object) → IsFetched s w (Some o) → ((n : ℕ) → o ≡ Function n → ⊥)
-    → ((n : ℕ) (cs : Rc (ItemList Captured) Global) → o ≡ Closure n cs → ⊥) → ((g : ℕ) → o ≡ Generic g → ⊥) → IsFunctionOrNot s w false
+    → ((n : ℕ) (cs : List Captured) → o ≡ Closure n cs → ⊥) → ((g : ℕ) → o ≡ Generic g → ⊥) → IsFunctionOrNot s w false
 is_none s w o x f g h = record { seen = λ names b. ap is_function (x.object names b) ∙ none names o f g h }
   where
-    none : (names : List (List ℕ)) (o : Object) → ((n : ℕ) → o ≡ Function n → ⊥) → ((n : ℕ) (cs : Rc (ItemList Captured) Global) → o ≡ Closure n cs → ⊥) → ((g : ℕ) → o ≡ Generic g → ⊥)
+    none : (names : List (List ℕ)) (o : Object) → ((n : ℕ) → o ≡ Function n → ⊥) → ((n : ℕ) (cs : List Captured) → o ≡ Closure n cs → ⊥) → ((g : ℕ) → o ≡ Generic g → ⊥)
         → is_function (Some (object_of names o)) ≡ false
     none names (Function n) f g h = absurd (f n refl)
     none names (Closure n cs) f g h = absurd (g n cs refl)

@@ -3,7 +3,7 @@ use Rattle.std.proofs.Common.{Bor, Global, ◌≡◌, ◌≢◌, ℕ, suc, ◌+�
 use Rattle.std.specs.Prelude.{slice_get, is_some, false, true}
 use Rattle.std.proofs.lemmas.List.{drop_all, append-nil, append_assoc}
 use Rattle.std.specs.declared.rc.Rc.{Rc}
-use Rattle.base.specs.declared.lists.ItemList.{ItemList}
+use Rattle.eval_store.specs.declared.exact_list.ExactList.{ExactList}
 use Rattle.base.specs.model.DataRest.{rest_at, take_at}
 use Rattle.lang_meaning.specs.Values.{Value, nil}
 use Rattle.lang_meaning.specs.Objects.{Chain, control_error_class}
@@ -104,7 +104,7 @@ pub none_primary : (r : Rest) (o : Option Next) → IsNextPrimary r o → is_som
 none_primary r None h e = h
 none_primary r (Some x) h e = absurd (cc)
 
-pub before_goes : (old mid new : Machine) (r : Rest) (shared kept : Rc (ItemList Word) Global) (ms : List ℕ) (level : ℕ) (a : DynamicLinks) → (rest_of r).primary ≢ []
+pub before_goes : (old mid new : Machine) (r : Rest) (shared kept : Rc (ExactList Word) Global) (ms : List ℕ) (level : ℕ) (a : DynamicLinks) → (rest_of r).primary ≢ []
     → shared.value ≡ kept.value → ms ≡ (rest_of r).before → IsAbove old mid (frame.BeforeMethods r shared level a)
     → StepsTo mid new (λ names s b. apply_each s ms (values_of names kept.value) level (dynamic_context names mid a) (frames names mid 0) (state names mid b))
     → StepsTo old new (λ names s b. run_primary s (rest_of r) (rest_of r).primary (values_of names kept.value) level (dynamic_context names old a) (frames names old 0) (state names old b))
@@ -118,7 +118,7 @@ before_goes old mid new r shared kept ms level a some same are h s =
     ∙ before_runs (setting_of names old.given) (rest_of r) (rest_of r).primary (values_of names kept.value) level (dynamic_context names old a) (frames names old 0) (state names old b) some)
 
 -- the first primary method runs, above the after methods
-pub primary_goes : (old mid new : Machine) (r : Rest) (x : Next) (shared : Rc (ItemList Word) Global) (c : Record) (level : ℕ) (a : DynamicLinks) → IsAfterBefore r x
+pub primary_goes : (old mid new : Machine) (r : Rest) (x : Next) (shared : Rc (ExactList Word) Global) (c : Record) (level : ℕ) (a : DynamicLinks) → IsAfterBefore r x
     → shared.value ≡ c.arguments.value → c.rest ≡ x.rest → IsAbove old mid (frame.PrimaryMethod r shared level a)
     → StepsTo mid new (λ names s b. apply_method s x.number (called_of names c) level (dynamic_context names mid a) (frames names mid 0) (state names mid b))
     → StepsTo old new (λ names s b. after_before s (rest_of r) (rest_of r).primary (values_of names c.arguments.value) level (dynamic_context names old a) (frames names old 0) (state names old b))
@@ -133,7 +133,7 @@ primary_goes old mid new r x shared c level a after same e h s =
     ∙ sym (after.step (setting_of names old.given) (values_of names c.arguments.value) level (dynamic_context names old a) (frames names old 0) (state names old b)))
 
 -- the after methods run, above the value of the primary method
-pub after_goes : (old mid new : Machine) (r : Rest) (kept : Rc (ItemList Word) Global) (w : Word) (ms : List ℕ) (level : ℕ) (a : DynamicLinks) → ms ≡ (rest_of r).after
+pub after_goes : (old mid new : Machine) (r : Rest) (kept : Rc (ExactList Word) Global) (w : Word) (ms : List ℕ) (level : ℕ) (a : DynamicLinks) → ms ≡ (rest_of r).after
     → IsAbove old mid (frame.Kept (outcome.Value w))
     → StepsTo mid new (λ names s b. apply_each s ms (values_of names kept.value) level (dynamic_context names mid a) (frames names mid 0) (state names mid b))
     → StepsTo old new (λ names s b. value_step s (primary_method (rest_of r).after (values_of names kept.value) level (dynamic_context names old a)) (value_of_word names w) (frames names old 0) (state names old b))
@@ -144,7 +144,7 @@ after_goes old mid new r kept w ms level a are h s =
     ap (λ ks. apply_each (setting_of names old.given) ks (values_of names kept.value) level (dynamic_context names old a) (waiting_frame_of names old (frame.Kept (outcome.Value w)) ∷ frames names old 0) (state names old b)) are)
 
 -- one method, above those behind it
-pub each_goes : (old pushed mid new : Machine) (list : Bor (List ℕ)) (n next m count level : ℕ) (kept : Rc (ItemList Word) Global) (a : DynamicLinks) → slice_get list.now n ≡ Some m → next ≡ suc n
+pub each_goes : (old pushed mid new : Machine) (list : Bor (List ℕ)) (n next m count level : ℕ) (kept : Rc (ExactList Word) Global) (a : DynamicLinks) → slice_get list.now n ≡ Some m → next ≡ suc n
     → ArePushed old pushed kept.value → count ≡ length kept.value → IsAbove pushed mid (frame.Methods list next kept level a)
     → StepsTo mid new (λ names s b. apply_procedure s m None (top names mid count) level (dynamic_context names mid a) (frames names mid count) (state names mid b))
     → StepsTo old new (λ names s b. apply_each s (drop n list.now) (values_of names kept.value) level (dynamic_context names old a) (frames names old 0) (state names old b))

@@ -18,7 +18,7 @@ use Rattle.eval_application.specs.Applying.{captured_values}
 -- a function is applied; what is none is not of the expected class
 abbrev pub applied : List (List ℕ) → Setting → Function → Word → List Value → (level : ℕ) → DynamicContext → Transition
 applied names s (Procedure p) w vs = apply_procedure s p None vs
-applied names s (Closure p cs) w vs = apply_function s p (captured_values names cs.value) vs
+applied names s (Closure p cs) w vs = apply_function s p (captured_values names cs) vs
 applied names s (Generic g) w vs = apply_generic s g vs
 applied names s NoFunction w vs = signal_domain s (value_of_word names w) function_class
 

@@ -4,16 +4,15 @@ ghost use Rattle.std.specs.Prelude.{IfOk, option_copied};
 ghost use Rattle.eval_application.specs.Functions.{IsFunctionValue, IsFunctionOrNot};
 
 use base::NoMemory;
-use eval_store::{CapturedList, Object, Store, Word};
+use eval_store::{Object, SharedCaptured, Store, Word};
 use lang_meaning::{GenericId, ProcedureId};
-use std::rc::Rc;
 
 /// The function of a procedure, one that a form made, with what it captured, or a generic function; or a value that is no
 /// function.
 #[derive(Drop)]
 pub enum Function<'p> {
     Procedure(ProcedureId),
-    Closure(ProcedureId, Rc<CapturedList<'p>>),
+    Closure(ProcedureId, SharedCaptured<'p>),
     Generic(GenericId),
     NoFunction,
 }
@@ -27,7 +26,7 @@ pub fn function_of<'p>(store: &Store<'p>, word: Word) -> Result<Function<'p>, No
         Some(object) => match object {
             Object::Function(number) => Ok(Function::Procedure(*number)),
             Object::Closure(number, captured) => {
-                let shared = captured.clone()?;
+                let shared = captured.share()?;
                 Ok(Function::Closure(*number, shared))
             }
             Object::Generic(number) => Ok(Function::Generic(*number)),

@@ -156,7 +156,7 @@ fn shared_arguments(machine: &Machine<'_>, count: usize) -> Result<Rc<Arguments>
     ensures { IfOk result (λ shared. shared.value ≡ last_of count machine.now.operands.items) }
 {
     let first = machine.operands.len() - count;
-    let mut arguments = ItemList::new(machine.given.alloc);
+    let mut arguments = Arguments::with_room(machine.given.alloc, count)?;
     for word in &machine.operands.as_slice()[first..] {
         arguments.push(*word)?;
     }

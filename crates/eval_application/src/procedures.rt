@@ -15,9 +15,8 @@ use eval_state::frame::Outcome;
 use eval_state::lookups::Code;
 use eval_state::machine::Machine;
 use eval_state::situation::{Activation, DynamicLinks};
-use eval_store::{Called, CapturedList, Word};
+use eval_store::{Called, SharedCaptured, Word};
 use lang_meaning::ProcedureId;
-use std::rc::Rc;
 
 /// The procedure of that number is applied to the last operands, so many as that, with what its method was called with.
 pub fn apply_procedure<'p>(
@@ -43,12 +42,12 @@ pub fn apply_procedure<'p>(
 pub fn apply_function<'p>(
     machine: &mut Machine<'p>,
     number: usize,
-    captured: Rc<CapturedList<'p>>,
+    captured: SharedCaptured<'p>,
     operands: usize,
     level: u64,
     around: DynamicLinks,
 ) -> Result<(), NoMemory>
-    ensures { OnOk result (ContinuesAs machine.old machine.new operands (λ names s. apply_function s number (captured_values names captured.entry.value) (top names machine.old operands) level (dynamic_context names machine.old around))) }
+    ensures { OnOk result (ContinuesAs machine.old machine.new operands (λ names s. apply_function s number (captured_values names captured.entry) (top names machine.old operands) level (dynamic_context names machine.old around))) }
 {
     let code = machine.given.lambda(number);
     let activation = Activation {

@@ -1,8 +1,6 @@
 -- The function that a form makes is an object of the store, beside which stands what it captured.
-use Rattle.std.proofs.Common.{◌≡◌, Global, ℕ, ◌+◌, ◌<◌, List, [], ◌∷◌, ◌++◌, ap, sym, ◌∙◌, subst, length, map, take, get_or, arith}
+use Rattle.std.proofs.Common.{◌≡◌, ℕ, ◌+◌, ◌<◌, List, [], ◌∷◌, ◌++◌, ap, sym, ◌∙◌, subst, length, map, take, get_or, arith}
 use Rattle.std.proofs.lemmas.List.{length-map, map-append, take_more}
-use Rattle.std.specs.declared.rc.Rc.{Rc}
-use Rattle.base.specs.declared.lists.ItemList.{ItemList}
 use Rattle.lang_meaning.specs.State.{Limit, value, full}
 use Rattle.flat_language.specs.declared.place.FlatCapture.{FlatCapture}
 use Rattle.flat_language.specs.FlatState.{FlatState, gives, make_closure, captured_part}
@@ -20,11 +18,11 @@ use Rattle.eval_state.specs.Building.{IsMade, IsDenied}
 use Rattle.eval_state.specs.View.{StepsTo, IsGiven, configuration_of, at, frames, state}
 
 -- the meaning's way to make it
-closure_built : (names : List (List ℕ)) (limit : Limit) (p size : ℕ) (shared : Rc (ItemList Captured) Global) (g : FlatCapture → flat.Captured) (parts : List FlatCapture) (z : FlatState)
-    → size ≡ 2 + length parts → map (captured_of names) shared.value ≡ map g parts
+closure_built : (names : List (List ℕ)) (limit : Limit) (p size : ℕ) (shared : List Captured) (g : FlatCapture → flat.Captured) (parts : List FlatCapture) (z : FlatState)
+    → size ≡ 2 + length parts → map (captured_of names) shared ≡ map g parts
     → built names limit size 0 (Closure p shared) z ≡ make_closure limit p (map g parts) z (λ v after. gives v after)
 closure_built names limit p size shared g parts z e h =
-    let many : size ≡ 2 + length (map (captured_of names) shared.value) = omega (arith, e, ap length h, length-map parts g) in
+    let many : size ≡ 2 + length (map (captured_of names) shared) = omega (arith, e, ap length h, length-map parts g) in
     ap (λ n. built names limit n 0 (Closure p shared) z) many
     ∙ ap (λ xs. make_closure limit p xs z (λ v after. gives v after)) h
 
@@ -45,9 +43,9 @@ one_captured m q cs parts c i d h a one names b =
     ∙ sym (map-append (captured_part (at names m q).environment (state names m b)) (take i parts) (get_or parts i d ∷ []))
     ∙ ap (map (captured_part (at names m q).environment (state names m b))) (sym (take_more parts i d h))
 
-pub function_made : (old mid new : Machine) (p size : ℕ) (shared : Rc (ItemList Captured) Global) (w : Word) (parts : List FlatCapture)
+pub function_made : (old mid new : Machine) (p size : ℕ) (shared : List Captured) (w : Word) (parts : List FlatCapture)
     (q : Situation)
-    → size ≡ 2 + length parts → AreCaptured old q shared.value parts → IsMade old mid size 0 (Closure p shared) w
+    → size ≡ 2 + length parts → AreCaptured old q shared parts → IsMade old mid size 0 (Closure p shared) w
     → StepsTo mid new (λ names s b. configuration (come_to (value (value_of_word names w))) (frames names mid 0) (state names mid b))
     → StepsTo old new (λ names s b. ended
     (make_closure s.limit p (map (captured_part (at names old q).environment (state names old b)) parts) (state names old b)
@@ -66,8 +64,8 @@ function_made old mid new p size shared w parts q many captured made s =
           ∙ made.state_is names b));
     }
 
-pub function_denied : (old new : Machine) (p size : ℕ) (shared : Rc (ItemList Captured) Global) (parts : List FlatCapture) (q : Situation)
-    → size ≡ 2 + length parts → AreCaptured old q shared.value parts → IsDenied old new size 0 (Closure p shared)
+pub function_denied : (old new : Machine) (p size : ℕ) (shared : List Captured) (parts : List FlatCapture) (q : Situation)
+    → size ≡ 2 + length parts → AreCaptured old q shared parts → IsDenied old new size 0 (Closure p shared)
     → StepsTo old new (λ names s b. ended
     (make_closure s.limit p (map (captured_part (at names old q).environment (state names old b)) parts) (state names old b)
     (λ v after. gives v after)) (frames names old 0))

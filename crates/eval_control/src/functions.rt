@@ -1,20 +1,20 @@
 // Functions that forms make, with what they capture.
 
 ghost use Rattle.std.specs.Prelude.{◌≡◌, ◌+◌, List, ℕ, map, length, OnOk, IfOk};
-ghost use Rattle.flat_language.specs.FlatState.{gives, captured_variable, captured_part, make_closure};
+ghost use Rattle.flat_language.specs.FlatState.{gives, of_method, captured_variable, captured_part, make_closure};
 ghost use Rattle.eval_machine.specs.Configuration.{ended};
 ghost use Rattle.eval_store.specs.View.{Beside};
-ghost use Rattle.eval_store.specs.Words.{captured_of};
+ghost use Rattle.eval_store.specs.Words.{captured_of, called_or_none};
 ghost use Rattle.eval_state.specs.declared.situation.Situation.{Situation as Here};
 ghost use Rattle.eval_state.specs.View.{StepsTo, at, frames, state};
 
 use crate::jumps::exit_at;
-use base::{ItemList, NoMemory};
+use base::NoMemory;
 use eval_state::machine::Machine;
 use eval_state::situation::Situation;
-use eval_store::{Captured, CapturedList, Object};
+use eval_store::{Called, Captured, CapturedList, Object, SharedCaptured};
 use flat_language::{FlatCapture, FlatCaptureList, VariablePlace};
-use std::rc::Rc;
+use std::alloc::Global;
 
 /// The function of a procedure is made, with what it captures.
 pub fn make_function<'p>(
@@ -39,19 +39,11 @@ fn shared_parts<'p>(
     machine: &Machine<'p>,
     parts: &FlatCaptureList,
     situation: Situation,
-) -> Result<Rc<CapturedList<'p>>, NoMemory>
-    ensures { IfOk result (λ list. (names : List (List ℕ)) (b : Beside) → map (captured_of names) list.value ≡ map (captured_part (at names machine.now situation).environment (state names machine.now b)) parts.now) }
+) -> Result<SharedCaptured<'p>, NoMemory>
+    ensures { IfOk result (λ list. (names : List (List ℕ)) (b : Beside) → map (captured_of names) list ≡ map (captured_part (at names machine.now situation).environment (state names machine.now b)) parts.now) }
 {
-    match Rc::new(
-        machine.given.alloc,
-        captured_parts(machine, parts, situation)?,
-    ) {
-        Ok(shared) => Ok(shared),
-        Err(refused) => {
-            drop(refused);
-            Err(NoMemory)
-        }
-    }
+    let list = captured_parts(machine, parts, situation)?;
+    SharedCaptured::new(machine.given.alloc, list)
 }
 
 // What is captured of these places.
@@ -62,7 +54,7 @@ fn captured_parts<'p>(
 ) -> Result<CapturedList<'p>, NoMemory>
     ensures { IfOk result (λ list. (names : List (List ℕ)) (b : Beside) → map (captured_of names) list ≡ map (captured_part (at names machine.now situation).environment (state names machine.now b)) parts.now) }
 {
-    let mut list = ItemList::new(machine.given.alloc);
+    let mut list = CapturedList::with_room(machine.given.alloc, parts.len())?;
     for part in parts.as_slice() {
         let captured = captured_part(machine, *part, situation)?;
         list.push(captured)?;
@@ -86,7 +78,7 @@ fn captured_part<'p>(
         }
         FlatCapture::Method(place) => {
             let method = machine.method_at(place)?;
-            Ok(Captured::Method(method))
+            captured_method(machine.given.alloc, method)
         }
     }
 }
@@ -100,6 +92,22 @@ fn captured_variable<'p>(machine: &Machine<'p>, place: VariablePlace) -> Capture
         VariablePlace::SlotBox(number) => Captured::Boxed(machine.slot_box(number)),
         VariablePlace::CapturedValue(number) => Captured::Value(machine.captured_value(number)),
         VariablePlace::CapturedBox(number) => Captured::Boxed(machine.captured_box(number)),
+    }
+}
+
+// What is captured of a method: what it was called with, in a block of its own.
+fn captured_method<'p>(alloc: Global, method: Option<Called<'p>>) -> Result<Captured<'p>, NoMemory>
+    ensures { IfOk result (λ c. (names : List (List ℕ)) → captured_of names c ≡ of_method (called_or_none names method.entry)) }
+{
+    match method {
+        Some(called) => match Box::new(alloc, called) {
+            Ok(kept) => Ok(Captured::Method(kept)),
+            Err(refused) => {
+                drop(refused);
+                Err(NoMemory)
+            }
+        },
+        None => Ok(Captured::NoMethod),
     }
 }
 

@@ -6,8 +6,6 @@ use Rattle.eval_store.specs.declared.word.Word.{Word}
 use Rattle.eval_store.specs.declared.word.Word.TheVariants as word
 use Rattle.eval_store.specs.declared.store.Store.{Store}
 use Rattle.eval_store.specs.declared.object.Instance.{Instance}
-use Rattle.std.specs.declared.rc.Rc.{Rc}
-use Rattle.base.specs.declared.lists.ItemList.{ItemList}
 use Rattle.eval_store.specs.declared.object.Captured.{Captured}
 use Rattle.eval_store.specs.declared.object.Object.{Object}
 use Rattle.eval_store.specs.declared.object.Object.TheVariants.{Cons, Text, Vector, Function, Closure, Generic, Class, FreshSymbol}
@@ -109,17 +107,17 @@ fresh_absent s w x = record { seen = λ names b. ap fresh_in (x.object names b) 
 pub procedure_function : (s : Store) (w : Word) (o : Object) (n : ℕ) → IsFetched s w (Some o) → o ≡ Function n → IsOfKind kind.Function s w true
 procedure_function s w o n x e = record { seen = λ names b. ap is_function (x.object names b) ∙ rw e refl }
 
-pub closure_function : (s : Store) (w : Word) (o : Object) (n : ℕ) (cs : Rc (ItemList Captured) Global) → IsFetched s w (Some o) → o ≡ Closure n cs → IsOfKind kind.Function s w true
+pub closure_function : (s : Store) (w : Word) (o : Object) (n : ℕ) (cs : List Captured) → IsFetched s w (Some o) → o ≡ Closure n cs → IsOfKind kind.Function s w true
 closure_function s w o n cs x e = record { seen = λ names b. ap is_function (x.object names b) ∙ rw e refl }
 
 pub generic_is_function : (s : Store) (w : Word) (o : Object) (g : ℕ) → IsFetched s w (Some o) → o ≡ Generic g → IsOfKind kind.Function s w true
 generic_is_function s w o g x e = record { seen = λ names b. ap is_function (x.object names b) ∙ rw e refl }
 
 pub function_else : (s : Store) (w : Word) (o : Object) → IsFetched s w (Some o) → ((n : ℕ) → o ≡ Function n → ⊥)
-    → ((n : ℕ) (cs : Rc (ItemList Captured) Global) → o ≡ Closure n cs → ⊥) → ((g : ℕ) → o ≡ Generic g → ⊥) → IsOfKind kind.Function s w false
+    → ((n : ℕ) (cs : List Captured) → o ≡ Closure n cs → ⊥) → ((g : ℕ) → o ≡ Generic g → ⊥) → IsOfKind kind.Function s w false
 function_else s w o x f g h = record { seen = λ names b. ap is_function (x.object names b) ∙ none names o f g h }
   where
-    none : (names : List (List ℕ)) (o : Object) → ((n : ℕ) → o ≡ Function n → ⊥) → ((n : ℕ) (cs : Rc (ItemList Captured) Global) → o ≡ Closure n cs → ⊥) → ((g : ℕ) → o ≡ Generic g → ⊥)
+    none : (names : List (List ℕ)) (o : Object) → ((n : ℕ) → o ≡ Function n → ⊥) → ((n : ℕ) (cs : List Captured) → o ≡ Closure n cs → ⊥) → ((g : ℕ) → o ≡ Generic g → ⊥)
         → is_function (Some (object_of names o)) ≡ false
     none names (Function n) f g h = absurd (f n refl)
     none names (Closure n cs) f g h = absurd (g n cs refl)

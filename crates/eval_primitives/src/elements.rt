@@ -10,8 +10,7 @@ use crate::expected::{PROGRAM_ERROR, STANDARD_OBJECT, STRING, VECTOR};
 use crate::group::Element;
 use crate::objects::{instance_of, string_of, vector_of};
 use crate::words::index_in;
-use base::ItemList;
-use eval_store::{Instance, Store, Word};
+use eval_store::{ExactList, Instance, Store, Word};
 
 /// An element of a value.
 pub(crate) fn element(store: &Store<'_>, which: Element, word: Word, place: Word) -> Answer
@@ -99,7 +98,7 @@ pub(crate) fn slot_in<'s>(
 }
 
 // The item at a place.
-fn item_at<T: Copy>(list: &ItemList<T>, at: usize) -> T
+fn item_at<T: Copy>(list: &ExactList<T>, at: usize) -> T
     requires { at < length list.now }
     ensures { slice_get list.now at ≡ Some result }
 {

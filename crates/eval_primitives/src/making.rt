@@ -9,8 +9,8 @@ ghost use Rattle.eval_primitives.specs.Done.{IsPrimitiveDone, Brings, ObjectIsSt
 use crate::answer::Answer;
 use crate::expected::{CHARACTER, INTEGER};
 use crate::words::{character_of, integer_of, natural};
-use base::{Bytes, ItemList, NoMemory};
-use eval_store::{Halt, Instance, Object, Store, Word};
+use base::NoMemory;
+use eval_store::{Characters, ExactList, Halt, Instance, Object, Store, Word};
 use lang_meaning::ClassId;
 use std::alloc::Global;
 
@@ -34,10 +34,14 @@ pub(crate) fn gensym(store: &mut Store<'_>, limit: Option<u64>) -> Result<Answer
 }
 
 /// A list of so many items that are alike.
-pub(crate) fn filled<T: Copy>(alloc: Global, count: usize, item: T) -> Result<ItemList<T>, NoMemory>
+pub(crate) fn filled<T: Copy>(
+    alloc: Global,
+    count: usize,
+    item: T,
+) -> Result<ExactList<T>, NoMemory>
     ensures { IfOk result (λ list. list ≡ replicate count item) }
 {
-    let mut list = ItemList::new(alloc);
+    let mut list = ExactList::with_room(alloc, count)?;
     for _ in 0..count {
         list.push(item)?;
     }
@@ -144,7 +148,7 @@ pub(crate) fn text(
     let count = bytes.len() as u64;
     let size = 2 + (count + 3) / 4;
     match store.request(limit, size, 0) {
-        Ok(()) => match Bytes::from_slice(alloc, bytes) {
+        Ok(()) => match Characters::from_slice(alloc, bytes) {
             Ok(copied) => answered(keep(store, size, count, Object::Text(copied))),
             Err(_none) => Err(Halt::NoMemory),
         },

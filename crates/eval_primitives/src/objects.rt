@@ -3,8 +3,7 @@
 ghost use Rattle.std.specs.Prelude.{option_copied};
 ghost use Rattle.eval_primitives.specs.Objects.{HasCons, HasString, HasVector, HasClass, HasInstance, HasFresh};
 
-use base::Bytes;
-use eval_store::{Elements, Instance, Object, Store, Word};
+use eval_store::{Characters, Elements, Instance, Object, Store, Word};
 use lang_meaning::ClassId;
 
 /// The parts of a cons.
@@ -23,7 +22,7 @@ pub(crate) fn cons_of(store: &Store<'_>, word: Word) -> Option<(Word, Word)>
 
 /// The characters of a string.
 #[tactic(auto, using(crate::proofs::Seeing::string_there, crate::proofs::Seeing::string_else, crate::proofs::Seeing::string_absent))]
-pub(crate) fn string_of<'s>(store: &'s Store<'_>, word: Word) -> Option<&'s Bytes>
+pub(crate) fn string_of<'s>(store: &'s Store<'_>, word: Word) -> Option<&'s Characters>
     ensures { HasString store.now word (option_copied result) }
 {
     match store.fetch(word) {

@@ -10,4 +10,4 @@ use Rattle.eval_state.specs.Slots.{captured_list}
 pub environment_captured : (names : List (List ℕ)) (a : Activation) (ws : List ContinuationFrame) (s : Situation) → map (captured_of names) (captured_list a) ≡ (situation_in names a ws s).environment.captured
 unfolding situation_in environment_in
 environment_captured names a ws s =
-    elim a.captured as (λ o. map (captured_of names) (elim o [ None ↦ [] | Some cs ↦ cs.value ]) ≡ elim o [ None ↦ [] | Some cs ↦ map (captured_of names) cs.value ]) [ None ↦ refl | Some cs ↦ refl ]
+    elim a.captured as (λ o. map (captured_of names) (elim o [ None ↦ [] | Some cs ↦ cs ]) ≡ elim o [ None ↦ [] | Some cs ↦ map (captured_of names) cs ]) [ None ↦ refl | Some cs ↦ refl ]

@@ -10,7 +10,7 @@ use Rattle.eval_state.specs.View.{state}
 
 -- what the function of an activation captured
 abbrev pub captured_list : Activation → List Captured
-captured_list a = elim a.captured [ None ↦ [] | Some cs ↦ cs.value ]
+captured_list a = elim a.captured [ None ↦ [] | Some cs ↦ cs ]
 
 -- the slots of the activation that runs and the store have changed, and nothing else
 pub record IsInPlace (old new : Machine) : Type 0 where

@@ -28,6 +28,7 @@ impl<'p> Machine<'p> {
             Some(Captured::Boxed(_)) => Word::Nil,
             Some(Captured::Exit(_)) => Word::Nil,
             Some(Captured::Method(_)) => Word::Nil,
+            Some(Captured::NoMethod) => Word::Nil,
             None => Word::Nil,
         }
     }
@@ -41,6 +42,7 @@ impl<'p> Machine<'p> {
             Some(Captured::Boxed(boxed)) => *boxed,
             Some(Captured::Exit(_)) => None,
             Some(Captured::Method(_)) => None,
+            Some(Captured::NoMethod) => None,
             None => None,
         }
     }
@@ -54,6 +56,7 @@ impl<'p> Machine<'p> {
             Some(Captured::Boxed(_)) => None,
             Some(Captured::Exit(exit)) => *exit,
             Some(Captured::Method(_)) => None,
+            Some(Captured::NoMethod) => None,
             None => None,
         }
     }
@@ -66,7 +69,8 @@ impl<'p> Machine<'p> {
             Some(Captured::Value(_)) => None,
             Some(Captured::Boxed(_)) => None,
             Some(Captured::Exit(_)) => None,
-            Some(Captured::Method(called)) => called.as_ref(),
+            Some(Captured::Method(called)) => Some(called.as_ref()),
+            Some(Captured::NoMethod) => None,
             None => None,
         }
     }

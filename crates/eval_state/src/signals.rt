@@ -8,7 +8,7 @@ ghost use Rattle.eval_state.specs.View.{ContinuesAs, dynamic_context};
 
 use crate::machine::{Control, Machine};
 use crate::situation::DynamicLinks;
-use base::{ItemList, Name, NoMemory};
+use base::{Name, NoMemory};
 use eval_store::{Instance, Object, Slots, Word};
 use lang_meaning::ClassId;
 use std::alloc::Global;
@@ -25,7 +25,7 @@ const DOMAIN_ERROR: ClassId = 29;
 fn slots_with(alloc: Global, words: &[Word]) -> Result<Slots, NoMemory>
     ensures { IfOk result (λ slots. slots ≡ map Some words.now) }
 {
-    let mut slots = ItemList::new(alloc);
+    let mut slots = Slots::with_room(alloc, words.len())?;
     for word in words {
         slots.push(Some(*word))?;
     }

@@ -1,8 +1,7 @@
 // Where forms are evaluated, and the activation that evaluates them.
 
 use base::Place;
-use eval_store::{Called, CapturedList};
-use std::rc::Rc;
+use eval_store::{Called, SharedCaptured};
 
 /// What surrounds an evaluation: links to the frames that make exits, handlers and dynamic bindings, and the site. A link is a
 /// number of frames: the innermost one that links among the first so many is meant.
@@ -25,7 +24,7 @@ pub struct Situation {
 /// An activation: what its function captured, what its method was called with, and how many slots it has.
 #[derive(Drop)]
 pub struct Activation<'p> {
-    pub captured: Option<Rc<CapturedList<'p>>>,
+    pub captured: Option<SharedCaptured<'p>>,
     pub method: Option<Called<'p>>,
     pub slots: usize,
 }

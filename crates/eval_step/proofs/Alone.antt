@@ -1,7 +1,7 @@
 -- The frames that are left to the machine alone.
 use Rattle.std.proofs.Common.{Bor, Global, ◌≡◌, ℕ, false, List, refl}
 use Rattle.std.specs.declared.rc.Rc.{Rc}
-use Rattle.base.specs.declared.lists.ItemList.{ItemList}
+use Rattle.eval_store.specs.declared.exact_list.ExactList.{ExactList}
 use Rattle.base.specs.declared.datum.Name.{Name}
 use Rattle.flat_language.specs.FlatForm.{FlatForm}
 use Rattle.eval_store.specs.declared.called.Rest.{Rest}
@@ -22,9 +22,9 @@ pub left_alone : (w : ContinuationFrame)
     → ((a : Name) → w ≡ frame.DefDynamic a → ⊥)
     → ((a : Bor FlatForm) (b : Situation) → w ≡ frame.HandlerValue a b → ⊥)
     → ((a : Word) (b : Situation) → w ≡ frame.SignalMark a b → ⊥)
-    → ((a : Bor (List ℕ)) (b : ℕ) (c : Rc (ItemList Word) Global) (d : ℕ) (e : DynamicLinks) → w ≡ frame.Methods a b c d e → ⊥)
-    → ((a : Rest) (b : Rc (ItemList Word) Global) (c : ℕ) (d : DynamicLinks) → w ≡ frame.BeforeMethods a b c d → ⊥)
-    → ((a : Rest) (b : Rc (ItemList Word) Global) (c : ℕ) (d : DynamicLinks) → w ≡ frame.PrimaryMethod a b c d → ⊥)
+    → ((a : Bor (List ℕ)) (b : ℕ) (c : Rc (ExactList Word) Global) (d : ℕ) (e : DynamicLinks) → w ≡ frame.Methods a b c d e → ⊥)
+    → ((a : Rest) (b : Rc (ExactList Word) Global) (c : ℕ) (d : DynamicLinks) → w ≡ frame.BeforeMethods a b c d → ⊥)
+    → ((a : Rest) (b : Rc (ExactList Word) Global) (c : ℕ) (d : DynamicLinks) → w ≡ frame.PrimaryMethod a b c d → ⊥)
     → WantsMore w ≡ false
 left_alone (frame.SetGlobal n s) not_0 not_1 not_2 not_3 not_4 not_5 not_6 not_7 not_8 not_9 not_10 = absurd (not_0 n s refl)
 left_alone (frame.DefGlobal n) not_0 not_1 not_2 not_3 not_4 not_5 not_6 not_7 not_8 not_9 not_10 = absurd (not_1 n refl)

@@ -1,3 +1,4 @@
+pub mod SharedParts
 pub mod Words
 pub mod Spelling
 pub mod View

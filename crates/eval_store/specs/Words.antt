@@ -67,11 +67,12 @@ abbrev pub captured_of : List (List ℕ) → Captured → flat.Captured
 captured_of names (captured.Value w) = flat.of_value (value_of_word names w)
 captured_of names (captured.Boxed i) = flat.of_box i
 captured_of names (captured.Exit e) = flat.of_exit e
-captured_of names (captured.Method m) = flat.of_method (called_or_none names m)
+captured_of names (captured.Method m) = flat.of_method (Some (called_of names m.value))
+captured_of names captured.NoMethod = flat.of_method None
 
 -- what the function of an object captured, if a form made it
 abbrev pub captured_by : List (List ℕ) → Object → Option (List flat.Captured)
-captured_by names (Closure p cs) = Some (map (captured_of names) cs.value)
+captured_by names (Closure p cs) = Some (map (captured_of names) cs)
 captured_by names o = None
 
 -- the same under its object's number

@@ -1,12 +1,12 @@
 // What a method was called with: the arguments, and the methods that are still to run.
 
+use crate::exact_list::ExactList;
 use crate::word::Word;
-use base::ItemList;
 use lang_dispatch::Chain;
 use std::rc::Rc;
 
 /// The arguments of a call of a generic function, which its methods share.
-pub type Arguments = ItemList<Word>;
+pub type Arguments = ExactList<Word>;
 
 /// The methods of a call that are still to run: all behind so many around methods, or the primary methods alone behind so
 /// many of them.

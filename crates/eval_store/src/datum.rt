@@ -11,7 +11,7 @@ ghost use Rattle.lang_meaning.specs.Recipes.{in_turn, single, laid};
 ghost use Rattle.eval_store.specs.Recipes.{IsMadeBy};
 
 use crate::making::{add_list, add_object};
-use crate::{Elements, Object, Store, Word};
+use crate::{Characters, Elements, Object, Store, Word};
 use base::{Bytes, Datum, DatumList, Kind, NoMemory, Symbol};
 use std::alloc::Global;
 
@@ -51,7 +51,7 @@ fn symbol_word(symbol: Symbol) -> Word
 fn lay_text(alloc: Global, bytes: &Bytes, store: &mut Store) -> Result<Word, NoMemory>
     ensures { IfOk result (λ w. IsMadeBy value_of_word (λ names. single (string bytes.now)) store.old store.new w) }
 {
-    let copy = Bytes::from_slice(alloc, bytes.as_slice())?;
+    let copy = Characters::from_slice(alloc, bytes.as_slice())?;
     add_object(store, Object::Text(copy))
 }
 
@@ -68,7 +68,7 @@ fn lay_vector(alloc: Global, items: &DatumList, store: &mut Store) -> Result<Wor
 fn lay_items(alloc: Global, items: &DatumList, store: &mut Store) -> Result<Elements, NoMemory>
     ensures { IfOk result (λ ws. IsMadeBy values_of (λ names. in_turn (λ d. laid (lay names d)) items.now) store.old store.new ws) }
 {
-    let mut words = Elements::new(alloc);
+    let mut words = Elements::with_room(alloc, items.len())?;
     for at in 0..items.len() {
         let Some(item) = items.get(at) else {
             unreachable!()

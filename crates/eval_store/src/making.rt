@@ -5,8 +5,8 @@ ghost use Rattle.eval_store.specs.Words.{value_of_word, values_of, object_of, ca
 ghost use Rattle.eval_store.specs.Recipes.{IsMadeBy, linked};
 ghost use Rattle.lang_meaning.specs.Recipes.{single};
 
-use crate::{Object, Store, Word};
-use base::{ItemList, NoMemory};
+use crate::{Elements, Object, Store, Word};
+use base::NoMemory;
 
 /// An object more, which has captured nothing.
 pub fn add_object<'p>(store: &mut Store<'p>, object: Object<'p>) -> Result<Word, NoMemory>
@@ -19,7 +19,7 @@ pub fn add_object<'p>(store: &mut Store<'p>, object: Object<'p>) -> Result<Word,
 
 /// The list of these words, with that end.
 #[tactic(auto, using(crate::proofs::Made::none_linked))]
-pub fn add_list(store: &mut Store, words: &ItemList<Word>, end: Word) -> Result<Word, NoMemory>
+pub fn add_list(store: &mut Store, words: &Elements, end: Word) -> Result<Word, NoMemory>
     ensures { IfOk result (λ w. IsMadeBy value_of_word (λ names. linked (values_of names words.now) (value_of_word names end)) store.old store.new w) }
 {
     let mut list = end;

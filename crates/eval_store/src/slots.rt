@@ -9,7 +9,7 @@ ghost use Rattle.eval_store.specs.Parts.{slot_recipe, slots_recipe, symbols_of};
 ghost use Rattle.eval_store.specs.Tables.{slot_values, slots_values};
 
 use crate::making::{add_list, add_object};
-use crate::{Object, Store, Word};
+use crate::{Elements, Object, Store, Word};
 use base::{ItemList, NameList, NoMemory};
 use lang_meaning::{ClassRow, ClassRows, ProcedureId, SlotRow, SlotRows};
 use std::alloc::Global;
@@ -76,10 +76,10 @@ fn lay_slot(alloc: Global, slot: &SlotRow, store: &mut Store) -> Result<SlotWord
 
 // The symbols of names.
 #[tactic(auto, using(crate::proofs::SlotParts::one_symbol))]
-fn symbols(alloc: Global, list: &NameList) -> Result<ItemList<Word>, NoMemory>
+fn symbols(alloc: Global, list: &NameList) -> Result<Elements, NoMemory>
     ensures { IfOk result (λ ws. (names : List (List ℕ)) → values_of names ws ≡ symbols_of names list.now) }
 {
-    let mut words = ItemList::new(alloc);
+    let mut words = Elements::with_room(alloc, list.len())?;
     for at in 0..list.len() {
         let Some(name) = list.get(at) else {
             unreachable!()

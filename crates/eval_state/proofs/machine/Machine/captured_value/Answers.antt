@@ -23,6 +23,10 @@ pub returns-in-Some-Method : goal.returns-in-Some-Method
 returns-in-Some-Method c names =
     sym (ap value_in (slice_get-map (captured_of names) (captured_list c.args.self.now.current) c.args.number ∙ ap (option_map (captured_of names)) (sym c.in-Some-Method.ensures ∙ ap Some c.in-Some-Method.field-0-is)))
 
+pub returns-in-Some-NoMethod : goal.returns-in-Some-NoMethod
+returns-in-Some-NoMethod c names =
+    sym (ap value_in (slice_get-map (captured_of names) (captured_list c.args.self.now.current) c.args.number ∙ ap (option_map (captured_of names)) (sym c.in-Some-NoMethod.ensures ∙ ap Some c.in-Some-NoMethod.field-0-is)))
+
 pub returns-in-None : goal.returns-in-None
 returns-in-None c names =
     sym (ap value_in (slice_get-map (captured_of names) (captured_list c.args.self.now.current) c.args.number ∙ ap (option_map (captured_of names)) (sym c.in-None.ensures)))
