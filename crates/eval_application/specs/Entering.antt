@@ -60,7 +60,7 @@ entering s e vs k around frames z =
 
 -- what the code enters
 abbrev pub captured_in : List (List ℕ) → Activation → List Captured
-captured_in names a = elim a.captured [ None ↦ [] | Some cs ↦ map (captured_of names) cs ]
+captured_in names a = map (captured_of names) a.captured
 
 abbrev pub entered_of : List (List ℕ) → Entering → Entered
 entered_of names e = record {

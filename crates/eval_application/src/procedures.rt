@@ -31,7 +31,7 @@ pub fn apply_procedure<'p>(
 {
     let code = machine.given.procedure(number);
     let activation = Activation {
-        captured: None,
+        captured: SharedCaptured::nothing(),
         method: called,
         slots: 0,
     };
@@ -51,7 +51,7 @@ pub fn apply_function<'p>(
 {
     let code = machine.given.lambda(number);
     let activation = Activation {
-        captured: Some(captured),
+        captured,
         method: None,
         slots: 0,
     };

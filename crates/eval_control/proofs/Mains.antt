@@ -53,7 +53,7 @@ abbrev pub outermost : (level link : ℕ) → Situation
 outermost level link = record { level = level; own = 0; around = record { exits = link; handlers = 0; bindings = 0; site = record { line = 0; column = 0 } } }
 
 abbrev pub fresh : Activation
-fresh = record { captured = None; method = None; slots = 0 }
+fresh = record { captured = []; method = None; slots = 0 }
 
 situation_outermost : (names : List (List ℕ)) (ws : List ContinuationFrame) (stack level n link : ℕ) (all : Bor (List FlatForm)) (saved : Activation) → link ≡ suc (length ws)
     → situation_in names fresh (frame.RestoresSlots saved ∷ frame.MainForm stack ∷ frame.MainForms level all n ∷ ws) (outermost level link)

@@ -13,7 +13,7 @@ use eval_state::machine::Machine;
 use eval_state::places::place_behind;
 use eval_state::situation::{Activation, DynamicLinks, Situation};
 use eval_state::sizes::form_words;
-use eval_store::Word;
+use eval_store::{SharedCaptured, Word};
 use flat_language::{FlatCore, FlatCoreList};
 use std::mem;
 
@@ -74,7 +74,7 @@ fn main_form<'p>(
     }
     machine.push_frame(ContinuationFrame::MainForm(before))?;
     let activation = Activation {
-        captured: None,
+        captured: SharedCaptured::nothing(),
         method: None,
         slots: 0,
     };

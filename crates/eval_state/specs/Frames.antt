@@ -94,7 +94,7 @@ own_in ws n = reverse (chained own_link ws n)
 -- the environment in an activation
 unfoldable pub environment_in : List (List ℕ) → Activation → List ContinuationFrame → ℕ → FlatEnvironment
 environment_in names a ws own = record {
-  captured = elim a.captured [ None ↦ [] | Some cs ↦ map (captured_of names) cs ];
+  captured = map (captured_of names) a.captured;
   exits = own_in ws own;
   method = called_or_none names a.method;
 }

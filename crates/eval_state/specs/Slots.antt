@@ -1,5 +1,5 @@
 -- What a machine is once the slots of the activation that runs have changed.
-use Rattle.std.specs.Prelude.{◌≡◌, ℕ, List, [], Some, None}
+use Rattle.std.specs.Prelude.{◌≡◌, ℕ, List}
 use Rattle.eval_store.specs.declared.object.Captured.{Captured}
 use Rattle.eval_store.specs.View.{Beside}
 use Rattle.flat_language.specs.FlatState.{FlatState}
@@ -10,7 +10,7 @@ use Rattle.eval_state.specs.View.{state}
 
 -- what the function of an activation captured
 abbrev pub captured_list : Activation → List Captured
-captured_list a = elim a.captured [ None ↦ [] | Some cs ↦ cs ]
+captured_list a = a.captured
 
 -- the slots of the activation that runs and the store have changed, and nothing else
 pub record IsInPlace (old new : Machine) : Type 0 where

@@ -13,10 +13,7 @@ impl<'p> Machine<'p> {
     fn captured(&self, number: usize) -> Option<&Captured<'p>>
         ensures { option_copied result ≡ slice_get (captured_list self.now.current) number }
     {
-        match &self.current.captured {
-            Some(list) => list.get(number),
-            None => None,
-        }
+        self.current.captured.get(number)
     }
 
     /// A value that was captured; nil where that is none.

@@ -24,7 +24,7 @@ pub struct Situation {
 /// An activation: what its function captured, what its method was called with, and how many slots it has.
 #[derive(Drop)]
 pub struct Activation<'p> {
-    pub captured: Option<SharedCaptured<'p>>,
+    pub captured: SharedCaptured<'p>,
     pub method: Option<Called<'p>>,
     pub slots: usize,
 }

@@ -9,7 +9,7 @@ use eval_state::frame::{ContinuationFrame, Outcome};
 use eval_state::given::Given;
 use eval_state::machine::{Control, Machine};
 use eval_state::situation::Activation;
-use eval_store::{NamedValues, Store, Word};
+use eval_store::{NamedValues, SharedCaptured, Store, Word};
 
 impl<'p> Evaluator<'p> {
     /// The evaluator before the main forms of a program, with so many levels, over a store of the objects that are there before
@@ -26,7 +26,7 @@ impl<'p> Evaluator<'p> {
             operands: Vec::new(given.alloc),
             slots: Vec::new(given.alloc),
             current: Activation {
-                captured: None,
+                captured: SharedCaptured::nothing(),
                 method: None,
                 slots: 0,
             },

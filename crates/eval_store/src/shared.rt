@@ -1,6 +1,6 @@
 // What a function captured, which its activations share.
 
-ghost use Rattle.std.specs.Prelude.{◌≡◌, length, slice_get, option_copied, IfOk};
+ghost use Rattle.std.specs.Prelude.{◌≡◌, [], length, slice_get, option_copied, IfOk};
 ghost use Rattle.eval_store.specs.SharedParts.{parts_in};
 
 use crate::object::{Captured, CapturedList};
@@ -51,6 +51,15 @@ struct Triple<'p> {
 }
 
 impl<'p> SharedCaptured<'p> {
+    /// Nothing; takes no memory.
+    pub fn nothing() -> SharedCaptured<'p>
+        ensures { result ≡ [] }
+    {
+        SharedCaptured {
+            parts: Parts::Nothing,
+        }
+    }
+
     /// That of a list.
     pub fn new(alloc: Global, list: CapturedList<'p>) -> Result<SharedCaptured<'p>, NoMemory>
         ensures { IfOk result (λ shared. shared ≡ list.entry) }
