@@ -1,0 +1,130 @@
+// What expands calls of macros.
+
+ghost use Rattle.std.specs.Prelude.{◌≡◌, ◌≤◌, ◌+◌, length, IfOk, IfErr};
+ghost use Rattle.front_profile.specs.Expanders.{program_of};
+ghost use Rattle.front_profile.specs.Expansions.{expander_words};
+ghost use Rattle.front_programs.specs.Calls.{CallExpands, CallStops};
+ghost use Rattle.top_expansion.specs.Calls.{IsCompiledCall, ShowsValue};
+ghost use Rattle.top_expansion.specs.Runs.{HasRun};
+
+use crate::compiling::{Compiled, Compiling};
+use crate::expander_run::{ExpanderRun, WORDS, are_words, run_expander};
+use base::{Datum, Names, Reason, Stop};
+use front_programs::{Expanding, MacroCall, refused};
+use lang_alike::law_alike_data;
+use lang_meaning::Program;
+use mid_taken::take_datum;
+use rv_machine::{Ending, Machine};
+use std::alloc::Global;
+
+/// What expands calls of macros: the program of each call is compiled and run on a machine of its own.
+#[derive(Drop)]
+pub struct Expander<C: Drop> {
+    pub compiler: C,
+}
+
+impl<C: Compiling + Drop> Expanding for Expander<C> {
+    fn expand(
+        &mut self,
+        alloc: Global,
+        names: &Names,
+        call: &MacroCall<'_>,
+    ) -> Result<Datum, Stop> {
+        let program = call.program(alloc)?;
+        let result = expand_by(alloc, &mut self.compiler, names, call, &program);
+        drop(program);
+        result
+    }
+}
+
+// The datum that a call stands for whose program this is.
+fn expand_by<C: Compiling>(
+    alloc: Global,
+    compiler: &mut C,
+    names: &Names,
+    call: &MacroCall<'_>,
+    program: &Program,
+) -> Result<Datum, Stop>
+    requires { program.now ≡ program_of call.now.tables.now call.now.macro_number call.now.datum.now }
+    ensures expands { IfOk result (CallExpands names.now call.now) }
+    ensures stops { IfErr result (CallStops names.now call.now) }
+{
+    let _rows = program.rows();
+    let compiled = compiler.compile(alloc, names, program)?;
+    let result = expand_compiled(alloc, names, call, &compiled);
+    drop(compiled);
+    result
+}
+
+// The datum of a call whose program was compiled.
+fn expand_compiled(
+    alloc: Global,
+    names: &Names,
+    call: &MacroCall<'_>,
+    compiled: &Compiled,
+) -> Result<Datum, Stop>
+    requires { IsCompiledCall names.now call.now compiled.now }
+    ensures expands { IfOk result (CallExpands names.now call.now) }
+    ensures stops { IfErr result (CallStops names.now call.now) }
+{
+    if compiled.image.words() > WORDS {
+        return Err(refused(call.datum, Reason::ExpanderArena));
+    }
+    let run = run_expander(alloc, &compiled.image)?;
+    let result = answer(alloc, names, call, compiled, &run);
+    drop(run);
+    result
+}
+
+// What the end of its run says. It ends in no other ways than these.
+fn answer(
+    alloc: Global,
+    names: &Names,
+    call: &MacroCall<'_>,
+    compiled: &Compiled,
+    run: &ExpanderRun,
+) -> Result<Datum, Stop>
+    requires call { IsCompiledCall names.now call.now compiled.now }
+    requires fits { length compiled.now.image.words ≤ expander_words }
+    requires run { HasRun compiled.now.image run.now }
+    ensures expands { IfOk result (CallExpands names.now call.now) }
+    ensures stops { IfErr result (CallStops names.now call.now) }
+{
+    match run.ending {
+        Ending::Halt(_) if run.printed => Err(refused(call.datum, Reason::ExpanderPrinted)),
+        Ending::Halt(word) => datum_of(alloc, names, call, compiled, run, word),
+        Ending::Unhandled(_) => Err(refused(call.datum, Reason::ExpanderUnhandled)),
+        Ending::Full { .. } => Err(refused(call.datum, Reason::ExpanderArena)),
+        Ending::Budget => Err(refused(call.datum, Reason::ExpanderBudget)),
+        Ending::Trap(_, _) | Ending::ReadFault | Ending::WriteFault => unreachable!(),
+    }
+}
+
+// The datum of the value with the word of which it halted.
+fn datum_of(
+    alloc: Global,
+    names: &Names,
+    call: &MacroCall<'_>,
+    compiled: &Compiled,
+    run: &ExpanderRun,
+    word: u32,
+) -> Result<Datum, Stop>
+    requires call { IsCompiledCall names.now call.now compiled.now }
+    requires shows { ShowsValue names.now call.now compiled.now run.now.machine.state word }
+    ensures expands { IfOk result (CallExpands names.now call.now) }
+    ensures stops { IfErr result (CallStops names.now call.now) }
+{
+    law_alike_data();
+    let datum: &Datum = call.datum;
+    let machine: &Machine = &run.machine;
+    let words = machine.arena();
+    are_words(words);
+    take_datum(
+        alloc,
+        words,
+        word,
+        datum.place,
+        call.number,
+        compiled.symbols.as_slice(),
+    )
+}
