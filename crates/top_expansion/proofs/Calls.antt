@@ -1,10 +1,12 @@
 -- What the end of the run of an expander says of the call.
-use Rattle.std.proofs.Common.{◌≡◌, ◌⊎◌, inl, inr, ◌≤◌, ◌<◌, ℕ, ◌+◌, ◌-◌, List, [], length, refl, sym, subst, ◌∙◌, arith}
+use Rattle.std.proofs.Common.{◌≡◌, ◌⊎◌, true, false, inl, inr, ◌≤◌, ◌<◌, ℕ, ◌+◌, ◌-◌, List, [], length, refl, sym, ap, subst, ◌∙◌, arith}
 use Rattle.std.proofs.lemmas.Bool.{cases_lt}
 use Rattle.base.specs.declared.reason.Reason.{Reason}
 use Rattle.base.specs.declared.reason.Reason.TheVariants.{ExpanderUnhandled, ExpanderPrinted, ExpanderArena, ExpanderBudget}
+use Rattle.base.specs.declared.reason.Refusal.{Refusal}
 use Rattle.base.specs.declared.reason.Stop.{Stop}
-use Rattle.base.specs.declared.reason.Stop.TheVariants.{Refused}
+use Rattle.base.specs.declared.place.Place.{Place}
+use Rattle.base.specs.declared.reason.Stop.TheVariants.{Refused, NoMemory}
 use Rattle.base.specs.Data.{Item, place_of}
 use Rattle.base.specs.Names.{Extends-same}
 use Rattle.lang_meaning.specs.declared.program.ProgramRows.{ProgramRows}
@@ -12,11 +14,14 @@ use Rattle.lang_alike.specs.Laws.{LawOfAlikeData}
 use Rattle.lang_taken.specs.Taken.{DatumOf, greatest_size, greatest_depth}
 use Rattle.lang_taken.specs.Failing.{DatumFails}
 use Rattle.front_profile.specs.Expanders.{program_of}
-use Rattle.front_profile.specs.Expansions.{HasExpander, Expands, ExpansionStops, expander_words, expander_instructions, most_image_words, is_unhandled, has_printed, is_no_datum, large_image, full, long, endless}
+use Rattle.front_profile.specs.Expansions.{HasExpander, Expands, ExpansionStops, expander_words, expander_instructions, most_image_words, is_unhandled, has_printed, is_no_datum, too_many_nodes, large_image, full, long, endless}
 use Rattle.front_programs.specs.declared.expanding.MacroCall.{MacroCall}
-use Rattle.front_programs.specs.Calls.{CallExpands, CallStops}
+use Rattle.front_programs.specs.Calls.{CallExpands, CallStops, ProgramStops}
 use Rattle.mid_arena.specs.Layouts.{AreBytes}
+use Rattle.mid_start.specs.declared.symbol_words.SymbolWord.{SymbolWord}
 use Rattle.mid_taken.specs.TakenFrom.{IsTaken, IsRefused}
+use Rattle.mid_taken.specs.Taking.{StopsBy}
+use Rattle.rv_machine.specs.declared.ending.TrapKind.{TrapKind}
 use Rattle.rv_machine.specs.declared.ending.Ending.{Ending}
 use Rattle.rv_machine.specs.declared.ending.Ending.TheVariants.{Halt, Unhandled, Full, Budget, Trap, ReadFault, WriteFault}
 use Rattle.rv_machine.specs.Run.{Ended}
@@ -24,15 +29,16 @@ use Rattle.rv_machine.specs.State as machine
 use Rattle.back_claims.specs.Program.{start_words}
 use Rattle.back_build.specs.Means.{Holds, HaltsWith, EndsUnhandled, EndsFull, ImageMeans}
 use Rattle.top_expansion.specs.declared.compiling.Compiled.{Compiled}
+use Rattle.top_expansion.specs.declared.expander_run.ExpanderRun.{ExpanderRun}
 use Rattle.top_expansion.specs.Calls.{IsCompiledCall, ShowsValue, call_means}
 use Rattle.top_expansion.specs.Compiles.{AreWordsOf}
-use Rattle.top_expansion.specs.Runs.{expander_run}
+use Rattle.top_expansion.specs.Runs.{HasRun, expander_run}
 
 no_bytes : AreBytes []
 no_bytes i low = absurd (omega (arith, low))
 
 -- the ends that no run comes to
-abbrev IsOther : Ending → Type 0
+abbrev pub IsOther : Ending → Type 0
 IsOther (Halt word) = ⊥
 IsOther (Unhandled class) = ⊥
 IsOther (Full asked left) = ⊥
@@ -40,6 +46,20 @@ IsOther Budget = ⊥
 IsOther (Trap kind address) = Unit {0}
 IsOther ReadFault = Unit {0}
 IsOther WriteFault = Unit {0}
+
+pub other_of :
+    (e : Ending) → ((kind : TrapKind) × (address : ℕ) × (e ≡ Trap kind address)) ⊎ ((e ≡ ReadFault) ⊎ (e ≡ WriteFault)) → IsOther e
+other_of e (inl (kind, address, is)) = subst IsOther (sym is) tt
+other_of e (inr (inl is)) = subst IsOther (sym is) tt
+other_of e (inr (inr is)) = subst IsOther (sym is) tt
+
+-- there is no program of the call with so few nodes
+pub of_program : (names : List (List ℕ)) (call : MacroCall) (stop : Stop) → ProgramStops call stop → CallStops names call stop
+of_program names call (Refused r) h = (
+  ap (λ (q : Refusal). q.place) h.0,
+  subst (λ (q : Refusal). ExpansionStops names call.tables.now call.macro_number call.datum.now call.number q.reason) (sym h.0) (too_many_nodes h.1),
+)
+of_program names call NoMemory h = tt
 
 -- a refusal at the call
 pub stops_there : (names : List (List ℕ)) (call : MacroCall) (reason : Reason) (stop : Stop) → stop ≡ Refused (record { place = place_of call.datum.now; reason = reason })
@@ -143,8 +163,8 @@ module _ (names : List (List ℕ)) (call : MacroCall) (compiled : Compiled) (c :
 
   -- the datum that is taken of the memory, and the reasons why there is none
   module _ (alike : LawOfAlikeData) (s : machine.State) (word : ℕ) (shows : ShowsValue names call compiled s word) (words : List ℕ) (are : AreWordsOf s words) where
-    pub takes : (d : Item) → IsTaken words word compiled.symbols (place_of call.datum.now) call.number d → CallExpands names call d
-    takes d taken =
+    takes_there : (d : Item) → IsTaken words word compiled.symbols (place_of call.datum.now) call.number d → CallExpands names call d
+    takes_there d taken =
         let l = shows.leaves in
         let law = (alike names (call_means names call).store l.state.store (place_of call.datum.now) call.number l.result l.alike).1 in
         record {
@@ -155,9 +175,47 @@ module _ (names : List (List ℕ)) (call : MacroCall) (compiled : Compiled) (c :
           datum = law.datum d (taken.there names l.state l.result (l.taken words are));
         }
 
-    pub fails : (r : Reason) → IsRefused words word compiled.symbols (place_of call.datum.now) call.number r → Stops r
+    fails : (r : Reason) → IsRefused words word compiled.symbols (place_of call.datum.now) call.number r → Stops r
     fails r refused =
         let l = shows.leaves in
         let law = (alike names (call_means names call).store l.state.store (place_of call.datum.now) call.number l.result l.alike).1 in
         is_no_datum expander expander_instructions l.result r (record { ends = l.end; silent = shows.silent })
         (law.fails greatest_depth greatest_size r (refused.there names l.state l.result (l.taken words are)))
+
+    stops_for : (stop : Stop) → StopsBy (place_of call.datum.now) (λ r. IsRefused words word compiled.symbols (place_of call.datum.now) call.number r) stop
+        → CallStops names call stop
+    stops_for (Refused r) h = (h.0, fails r.reason h.1)
+    stops_for NoMemory h = tt
+
+    pub takes : (place : Place) (symbols : List SymbolWord) → place ≡ place_of call.datum.now → symbols ≡ compiled.symbols
+        → (d : Item) → IsTaken words word symbols place call.number d → CallExpands names call d
+    takes place symbols here same d h =
+        takes_there d (subst (λ (p : Place). IsTaken words word compiled.symbols p call.number d) here
+        (subst (λ (l : List SymbolWord). IsTaken words word l place call.number d) same h))
+
+    pub stops : (place : Place) (symbols : List SymbolWord) → place ≡ place_of call.datum.now → symbols ≡ compiled.symbols
+        → (stop : Stop) → StopsBy place (λ r. IsRefused words word symbols place call.number r) stop → CallStops names call stop
+    stops place symbols here same stop h =
+        stops_for stop (subst (λ (p : Place). StopsBy p (λ r. IsRefused words word compiled.symbols p call.number r) stop) here
+        (subst (λ (l : List SymbolWord). StopsBy place (λ r. IsRefused words word l place call.number r) stop) same h))
+
+  -- the same of the run that was made
+  module _ (run : ExpanderRun) (fits : length compiled.image.words ≤ expander_words) (h : HasRun compiled.image run) where
+    pub prints : (word : ℕ) → run.ending ≡ Halt word → run.printed ≡ true → Stops ExpanderPrinted
+    prints word e printed = of_printed fits word (sym h.ending ∙ e) (h.heard printed)
+
+    pub shows : (word : ℕ) → run.ending ≡ Halt word → run.printed ≡ false → ShowsValue names call compiled run.machine.state word
+    shows word e silent =
+        subst (λ (s : machine.State). ShowsValue names call compiled s word) (sym h.state) (of_silent fits word (sym h.ending ∙ e) (h.silent silent))
+
+    pub is_signalled : (class : ℕ) → run.ending ≡ Unhandled class → Stops ExpanderUnhandled
+    is_signalled class e = of_unhandled fits class (sym h.ending ∙ e)
+
+    pub has_no_room : (asked left : ℕ) → run.ending ≡ Full asked left → Stops ExpanderArena
+    has_no_room asked left e = of_full fits asked left (sym h.ending ∙ e)
+
+    pub goes_on : run.ending ≡ Budget → Stops ExpanderBudget
+    goes_on e = of_budget fits (sym h.ending ∙ e)
+
+    pub ends_otherwise : (e : Ending) → run.ending ≡ e → IsOther e → ⊥
+    ends_otherwise e is other = no_other fits e (sym h.ending ∙ is) other

@@ -1,15 +1,17 @@
 // What expands calls of macros.
 
 ghost use Rattle.std.specs.Prelude.{◌≡◌, ◌≤◌, ◌+◌, length, IfOk, IfErr};
+ghost use Rattle.base.specs.Data.{place_of};
 ghost use Rattle.front_profile.specs.Expanders.{program_of};
 ghost use Rattle.front_profile.specs.Expansions.{expander_words};
 ghost use Rattle.front_programs.specs.Calls.{CallExpands, CallStops};
+ghost use Rattle.rv_machine.specs.declared.ending.Ending.TheVariants.{Halt};
 ghost use Rattle.top_expansion.specs.Calls.{IsCompiledCall, ShowsValue};
 ghost use Rattle.top_expansion.specs.Runs.{HasRun};
 
 use crate::compiling::{Compiled, Compiling};
 use crate::expander_run::{ExpanderRun, WORDS, are_words, run_expander};
-use base::{Datum, Names, Reason, Stop};
+use base::{Datum, Names, Place, Reason, Stop};
 use front_programs::{Expanding, MacroCall, refused};
 use lang_alike::law_alike_data;
 use lang_meaning::Program;
@@ -91,8 +93,7 @@ fn answer(
     ensures stops { IfErr result (CallStops names.now call.now) }
 {
     match run.ending {
-        Ending::Halt(_) if run.printed => Err(refused(call.datum, Reason::ExpanderPrinted)),
-        Ending::Halt(word) => datum_of(alloc, names, call, compiled, run, word),
+        Ending::Halt(word) => halted(alloc, names, call, compiled, run, word),
         Ending::Unhandled(_) => Err(refused(call.datum, Reason::ExpanderUnhandled)),
         Ending::Full { .. } => Err(refused(call.datum, Reason::ExpanderArena)),
         Ending::Budget => Err(refused(call.datum, Reason::ExpanderBudget)),
@@ -100,7 +101,29 @@ fn answer(
     }
 }
 
-// The datum of the value with the word of which it halted.
+// What it says that it halted with that word.
+fn halted(
+    alloc: Global,
+    names: &Names,
+    call: &MacroCall<'_>,
+    compiled: &Compiled,
+    run: &ExpanderRun,
+    word: u32,
+) -> Result<Datum, Stop>
+    requires call { IsCompiledCall names.now call.now compiled.now }
+    requires fits { length compiled.now.image.words ≤ expander_words }
+    requires run { HasRun compiled.now.image run.now }
+    requires ending { run.now.ending ≡ Halt word }
+    ensures expands { IfOk result (CallExpands names.now call.now) }
+    ensures stops { IfErr result (CallStops names.now call.now) }
+{
+    if run.printed {
+        return Err(refused(call.datum, Reason::ExpanderPrinted));
+    }
+    datum_of(alloc, names, call, compiled, run, word)
+}
+
+// The datum of the value with the word of which it halted, with nothing printed.
 fn datum_of(
     alloc: Global,
     names: &Names,
@@ -115,16 +138,17 @@ fn datum_of(
     ensures stops { IfErr result (CallStops names.now call.now) }
 {
     law_alike_data();
-    let datum: &Datum = call.datum;
+    let place = place_of(call.datum);
     let machine: &Machine = &run.machine;
     let words = machine.arena();
     are_words(words);
-    take_datum(
-        alloc,
-        words,
-        word,
-        datum.place,
-        call.number,
-        compiled.symbols.as_slice(),
-    )
+    let symbols = compiled.symbols.as_slice();
+    take_datum(alloc, words, word, place, call.number, symbols)
+}
+
+// Where a datum stands.
+fn place_of(datum: &Datum) -> Place
+    ensures { result ≡ place_of datum.now }
+{
+    datum.place
 }
