@@ -11,10 +11,9 @@ use Rattle.base.specs.Data.{Item, place_of}
 use Rattle.base.specs.Names.{Extends-same}
 use Rattle.lang_meaning.specs.declared.program.ProgramRows.{ProgramRows}
 use Rattle.lang_alike.specs.Laws.{LawOfAlikeData}
-use Rattle.lang_taken.specs.Taken.{DatumOf, greatest_size, greatest_depth}
-use Rattle.lang_taken.specs.Failing.{DatumFails}
+use Rattle.lang_taken.specs.Taken.{greatest_size, greatest_depth}
 use Rattle.front_profile.specs.Expanders.{program_of}
-use Rattle.front_profile.specs.Expansions.{HasExpander, Expands, ExpansionStops, expander_words, expander_instructions, most_image_words, is_unhandled, has_printed, is_no_datum, too_many_nodes, large_image, full, long, endless}
+use Rattle.front_profile.specs.Expansions.{HasExpander, ExpansionStops, expander_words, expander_instructions, is_unhandled, has_printed, is_no_datum, too_many_nodes, large_image, full, long, endless}
 use Rattle.front_programs.specs.declared.expanding.MacroCall.{MacroCall}
 use Rattle.front_programs.specs.Calls.{CallExpands, CallStops, ProgramStops}
 use Rattle.mid_arena.specs.Layouts.{AreBytes}

@@ -15,7 +15,7 @@ use Rattle.mid_taken.specs.TakenFrom.{TakenFrom}
 use Rattle.rv_machine.specs.declared.ending.Ending.TheVariants.{Budget, Halt}
 use Rattle.rv_machine.specs.declared.image.Image.{Image}
 use Rattle.rv_machine.specs.Memory.{bytes_of}
-use Rattle.rv_machine.specs.Run.{Ended, run_of}
+use Rattle.rv_machine.specs.Run.{run_of}
 use Rattle.rv_machine.specs.State as machine
 use Rattle.back_claims.specs.Program.{start_words}
 use Rattle.back_build.specs.Means.{IsBuilt}

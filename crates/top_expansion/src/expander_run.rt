@@ -40,7 +40,7 @@ pub(crate) fn run_expander(alloc: Global, image: &Image) -> Result<ExpanderRun, 
     })
 }
 
-/// Words of the machine have 32 bits.
+/// Words of the machine have 32 bits. It does nothing: that each of them has, it says at its end.
 pub(crate) fn are_words(words: &[u32])
     ensures { (i : ℕ) → slice_index words.now i < 2 ^ 32 }
 {
