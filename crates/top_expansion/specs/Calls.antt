@@ -20,6 +20,7 @@ abbrev pub call_means : List (List ℕ) → MacroCall → Meant
 call_means names call = expander_means names call.tables.now call.macro_number call.datum.now expander_instructions unlimited
 
 -- it prints nothing, and a word in the memory stands for its value
-pub record ShowsValue (names : List (List ℕ)) (call : MacroCall) (compiled : Compiled) (s : machine.State) (word : ℕ) : Type 0 where
+pub record ShowsValue
+    (names : List (List ℕ)) (call : MacroCall) (compiled : Compiled) (s : machine.State) (word : ℕ) : Type 0 where
   pub leaves : LeavesValue names compiled.symbols (call_means names call) s word
   pub silent : (call_means names call).printed ≡ []

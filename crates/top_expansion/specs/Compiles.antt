@@ -1,4 +1,4 @@
--- **What is asked of what compiles the programs of calls**: of the image of a program, and the symbols that stand in it.
+-- **What is asked of what compiles the programs of calls**: of a program's image, and the symbols that stand in it.
 use Rattle.std.specs.Prelude.{◌≡◌, ◌⊎◌, ◌<◌, ◌≤◌, ◌+◌, ◌^◌, ℕ, List, length, slice_index}
 use Rattle.lang_meaning.specs.declared.program.ProgramRows.{ProgramRows}
 use Rattle.lang_meaning.specs.Counts.{bound}
@@ -25,9 +25,10 @@ pub record AreWordsOf (s : machine.State) (words : List ℕ) : Type 0 where
   pub memory : bytes_of words ≡ s.memory
   pub small : (i : ℕ) → slice_index words i < 2 ^ 32
 
--- The program ends with a value for which this word stands in the memory: of a state whose objects are those that the program leaves, but for
--- functions, and whose symbols that were there before the run are these with their words.
-pub record LeavesValue (names : List (List ℕ)) (symbols : List SymbolWord) (m : Meant) (s : machine.State) (word : ℕ) : Type 0 where
+-- The program ends with a value for which this word stands in the memory: of a state whose objects are those that the
+-- program leaves, but for functions, and whose symbols that were there before the run are these with their words.
+pub record LeavesValue
+    (names : List (List ℕ)) (symbols : List SymbolWord) (m : Meant) (s : machine.State) (word : ℕ) : Type 0 where
   pub result : Value
   pub end : m.end ≡ ended_value result
   pub state : State
@@ -38,13 +39,14 @@ pub record LeavesValue (names : List (List ℕ)) (symbols : List SymbolWord) (m 
 abbrev pub GoesOn : Meant → (instructions : ℕ) → Type 0
 GoesOn m n = (m.end ≡ ended_more) ⊎ (IsHalt m.end × (n < bound m.units))
 
--- what of it and the start of its run is in the arena are no more words than those of the program that keeps what is reached
+-- with the start's own words it has no more than those of the program that keeps what is reached
 pub record HasFewWords (names : List (List ℕ)) (program : ProgramRows) (image : Image) : Type 0 where
   pub left : ProgramRows
   pub keeps : KeepsReached names program left
   pub few : length image.words + start_words ≤ most_image_words left
 
-pub record IsCompiled (names : List (List ℕ)) (program : ProgramRows) (image : Image) (symbols : List SymbolWord) : Type 0 where
+pub record IsCompiled
+    (names : List (List ℕ)) (program : ProgramRows) (image : Image) (symbols : List SymbolWord) : Type 0 where
   -- it does what the program means
   pub built : IsBuilt names program image
   pub few : HasFewWords names program image
@@ -52,10 +54,12 @@ pub record IsCompiled (names : List (List ℕ)) (program : ProgramRows) (image :
   pub named : NamesIn (length names) program
   -- where a run has halted, its word stands for the value of the program
   pub values :
-      (arena : ℕ) (input : List ℕ) → length image.words ≤ arena → arena ≤ 2 ^ 24 → AreBytes input → (n : ℕ) → n < 2 ^ 32 → (word : ℕ)
-      → (run_of image.words image.entry arena input n).ending ≡ Halt word
-      → LeavesValue names symbols (meaning names program input n unlimited) (run_of image.words image.entry arena input n).at.state word
+      (arena : ℕ) (input : List ℕ) → length image.words ≤ arena → arena ≤ 2 ^ 24 → AreBytes input
+      → (n : ℕ) → n < 2 ^ 32 → (word : ℕ) → (run_of image.words image.entry arena input n).ending ≡ Halt word
+      → LeavesValue names symbols (meaning names program input n unlimited)
+      (run_of image.words image.entry arena input n).at.state word
   -- where a run goes on, the program does, or it is charged more
   pub paid :
-      (arena : ℕ) (input : List ℕ) → length image.words ≤ arena → arena ≤ 2 ^ 24 → AreBytes input → (n : ℕ) → n < 2 ^ 32
-      → (run_of image.words image.entry arena input n).ending ≡ Budget → GoesOn (meaning names program input n unlimited) n
+      (arena : ℕ) (input : List ℕ) → length image.words ≤ arena → arena ≤ 2 ^ 24 → AreBytes input
+      → (n : ℕ) → n < 2 ^ 32 → (run_of image.words image.entry arena input n).ending ≡ Budget
+      → GoesOn (meaning names program input n unlimited) n

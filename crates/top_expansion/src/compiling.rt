@@ -19,8 +19,8 @@ pub struct Compiled {
 /// What compiles programs to images for the machine.
 pub trait Compiling {
     /// The image of a program with these names, and its symbols: in every arena that has room for it, it does what the
-    /// program means, and what it halts with is found in the memory. A program that is not compiled for another reason is
-    /// answered as want of memory.
+    /// program means, and what it halts with is found in the memory. A program that is not compiled for another reason
+    /// is answered as want of memory.
     fn compile(
         &mut self,
         alloc: Global,
