@@ -17,9 +17,10 @@ use Rattle.back_allocation.specs.declared.placing.RegisterPlaces.{RegisterPlaces
 use Rattle.back_allocation.specs.LineSteps.{landings_in, steps_from}
 use Rattle.back_allocation.specs.StandingLandings.{line_landings}
 use Rattle.back_allocation.specs.Names.{AreNamings, NamesStand}
+use Rattle.back_allocation.specs.NamesFound.{owner_in}
 use Rattle.back_allocation.specs.Standing.{AllStand}
 use Rattle.back_allocation.specs.Allocated.{parameter_places}
-use Rattle.back_allocation.specs.Slots.{AreSlotsWanted}
+use Rattle.back_allocation.specs.Slots.{AreLives, AreSlotsWanted}
 use Rattle.back_allocation.specs.Places.{place_of, place_chosen, place_in, place_at, enters_in, ChosenWell}
 use Rattle.back_allocation.specs.RegistersPlaced.{StandInPlaces, StandInSlotsForReasons}
 use Rattle.back_allocation.proofs.Naming.{below_or_not}
@@ -130,16 +131,22 @@ parameter_listed spot enters v list new place e is h =
 pub for_reasons :
     (p : LineProcedure) (a : RegisterPlaces) (lines : List Line) (owners : List ℕ) (table : List (List ℕ)) (constants : List (Option ℕ))
     (lives : List (Option Interval)) (parts : List (List Interval)) (spots : List (Option Spot)) → a.lines ≡ lines → table ≡ line_landings 0 [] p.lines
+    → AreNamings (owner_in owners) (length owners) p.lines lines
     → ((v : ℕ) → place_at a.places v ≡ place_in constants spots v)
+    → AreLives (steps_from (landings_in table) 0 lines) (length owners) lives
     → AreSlotsWanted lines (landings_in table) p.parameters owners constants lives parts spots
     → (AreStructured (steps_from (landings_in table) 0 lines) → AreTight (steps_from (landings_in table) 0 lines) lives) → StandInSlotsForReasons p a
-for_reasons p a lines owners table constants lives parts spots same told placed wanted tight = record {
+for_reasons p a lines owners table constants lives parts spots same told named placed are_lives wanted tight = record {
   owners = owners;
   constants = constants;
   lives = lives;
   parts = parts;
   spots = spots;
+  named = subst (λ (ls : List Line). AreNamings (owner_in owners) (length owners) p.lines ls) (sym same) named;
   placed = placed;
+  are_lives =
+      subst (λ (t : List (List ℕ)). AreLives (steps_from (landings_in t) 0 a.lines) (length owners) lives) told
+      (subst (λ (ls : List Line). AreLives (steps_from (landings_in table) 0 ls) (length owners) lives) (sym same) are_lives);
   wanted =
       subst (λ (t : List (List ℕ)). AreSlotsWanted a.lines (landings_in t) p.parameters owners constants lives parts spots) told
       (subst (λ (ls : List Line). AreSlotsWanted ls (landings_in table) p.parameters owners constants lives parts spots) (sym same) wanted);

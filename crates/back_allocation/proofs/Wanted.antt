@@ -5,9 +5,10 @@ use Rattle.std.specs.List.{list_any}
 use Rattle.std.proofs.lemmas.List.Folds.{list_any_at}
 use Rattle.mid_lines.specs.declared.line.Line.{Line}
 use Rattle.back_liveness.specs.declared.barrier.Barrier.{Barrier}
+use Rattle.back_liveness.specs.declared.step.Step.{Step}
 use Rattle.back_liveness.specs.declared.step.Interval.{Interval}
 use Rattle.back_liveness.specs.Barriers.{Crosses, barrier_at}
-use Rattle.back_liveness.specs.Liveness.{IsWithin, IsCovered, IsCrossedWithin, OnlyCrossed}
+use Rattle.back_liveness.specs.Liveness.{IsWithin, IsCovered, IsLive, IsCrossedWithin, OnlyCrossed, Covers}
 use Rattle.back_liveness.specs.Points.{EndsBy, EndBy}
 use Rattle.back_scan.specs.declared.spot.Spot.{Spot}
 use Rattle.back_scan.specs.declared.spot.Wish.{Wish}
@@ -15,7 +16,7 @@ use Rattle.back_scan.specs.declared.spot.Wish.TheVariants.{Any, Only, InSlot}
 use Rattle.back_scan.specs.Spots.{interval_of, HasHolder, NoneIsLeft, StandWell}
 use Rattle.back_allocation.specs.Barriers.{call_result, may_cut}
 use Rattle.back_allocation.specs.Constants.{constant_in, AreKept}
-use Rattle.back_allocation.specs.Slots.{HasToOutlast, a_call, a_cut, IsSlotWanted, outlasting, passed, full, AreSlotsWanted, OnlyOutlasting, IsAskedFor, for_crossed, for_passed, for_passed_in_none, for_other, owner_at, AreAsked}
+use Rattle.back_allocation.specs.Slots.{AreLives, HasToOutlast, a_call, a_cut, IsSlotWanted, outlasting, passed, full, AreSlotsWanted, OnlyOutlasting, IsAskedFor, for_crossed, for_passed, for_passed_in_none, for_other, owner_at, AreAsked}
 use Rattle.back_allocation.specs.Wishes.{wish_at}
 use Rattle.back_allocation.proofs.Naming.{below_or_not}
 
@@ -100,3 +101,13 @@ asked_own parameters v owner q i crossed w from of register slot =
       | inl low ↦ subst (IsAskedFor parameters v owner i crossed) (sym (register low)) (for_passed q from of low)
       | inr high ↦ subst (IsAskedFor parameters v owner i crossed) (sym (slot high)) (for_passed_in_none q from of high)
     ]
+
+-- intervals that were found have the lines at which names are alive, and those behind lines that write them
+pub lives_are :
+    (steps : List Step) (barriers : List Barrier) (names : ℕ) (found : List (Option Interval)) (parts : List (List Interval)) (crossed : List Bool)
+    → length found ≡ names → Covers steps barriers found parts crossed
+    → ((v line : ℕ) → v < names → IsLive steps v line → IsCovered found v line) → AreLives steps names found
+lives_are steps barriers names found parts crossed count covers alive = record {
+  alive = alive;
+  written = λ v line s low there writes. covers.inside v (line + 1) (covers.written v line s (omega (arith, low, count)) there writes);
+}

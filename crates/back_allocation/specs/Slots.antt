@@ -6,7 +6,8 @@ use Rattle.back_liveness.specs.declared.barrier.Barrier.{Barrier}
 use Rattle.back_liveness.specs.declared.barrier.Barrier.TheVariants.{Open, Closed, ClosedBut, ClosedAmong}
 use Rattle.back_liveness.specs.declared.step.Interval.{Interval}
 use Rattle.back_liveness.specs.Barriers.{Crosses, barrier_at}
-use Rattle.back_liveness.specs.Liveness.{IsWithin}
+use Rattle.back_liveness.specs.declared.step.Step.{Step}
+use Rattle.back_liveness.specs.Liveness.{IsWithin, IsCovered, IsLive}
 use Rattle.back_scan.specs.declared.spot.Spot.{Spot}
 use Rattle.back_scan.specs.declared.spot.Spot.TheVariants.{Slot}
 use Rattle.back_scan.specs.declared.spot.Wish.{Wish}
@@ -30,6 +31,11 @@ IsOfParameter parameters v owner q = (q < parameters) × ((q ≡ v) ⊎ (q ≡ o
 
 abbrev pub owner_at : (owners : List ℕ) → (name : ℕ) → ℕ
 owner_at owners v = slice_index_or owners v v
+
+-- The intervals of so many names have the lines at which these are alive, and those behind lines that write them.
+pub record AreLives (steps : List Step) (names : ℕ) (lives : List (Option Interval)) : Type 0 where
+  pub alive : (v line : ℕ) → v < names → IsLive steps v line → IsCovered lives v line
+  pub written : (v line : ℕ) (s : Step) → v < names → slice_get steps line ≡ Some s → s.written ≡ Some v → IsCovered lives v (line + 1)
 
 -- The reasons for which a name with that interval stands in a slot: it has to outlast something at some line of the interval; it is passed there, or in a
 -- value register that another name has at the first line; or others have all fourteen value registers where its interval begins.

@@ -4,7 +4,7 @@ ghost use Rattle.std.specs.Prelude.{◌≡◌, ◌≤◌, ◌<◌, ◌^◌, ℕ,
 ghost use Rattle.mid_lines.specs.declared.line.Line.{Line};
 ghost use Rattle.back_allocation.specs.LineSteps.{line_gives, landings_in, steps_from};
 ghost use Rattle.back_allocation.specs.Places.{place_in, enters_in, begins_in, ChosenWell};
-ghost use Rattle.back_allocation.specs.Slots.{AreSlotsWanted};
+ghost use Rattle.back_allocation.specs.Slots.{AreLives, AreSlotsWanted};
 ghost use Rattle.back_liveness.specs.Liveness.{AreStructured, AreTight};
 
 use crate::barriers::barriers_of;
@@ -32,7 +32,7 @@ pub struct Chosen {
 /// Where the names of registers with these owners stand, by which lines go, of which these are the landings of the records that stand at them; how
 /// many slots they need, no more than there are names; and whether it is clear that none is alive where one of the barriers crosses it. A name is in a
 /// slot only where it has to outlast a call or a cut, where it is passed there, or where all value registers are had by others when its interval
-/// begins; and no interval is longer than it has to be.
+/// begins; the intervals have the lines at which names are alive, and none is longer than it has to be.
 pub fn allocate(
     alloc: Global,
     lines: &LineList,
@@ -50,6 +50,7 @@ pub fn allocate(
     ensures long { IfOk result (λ a. length a.constants.items ≡ length a.allocation.spots.items) }
     ensures slots { IfOk result (λ a. AreSlotsWanted lines.now (landings_in landings.now) parameters owners.now a.constants.items a.lives a.parts
         a.allocation.spots.items) }
+    ensures lives { IfOk result (λ a. AreLives (steps_from (landings_in landings.now) 0 lines.now) (length owners.now) a.lives) }
     ensures tight { AreStructured (steps_from (landings_in landings.now) 0 lines.now)
         → IfOk result (λ a. AreTight (steps_from (landings_in landings.now) 0 lines.now) a.lives) }
 {

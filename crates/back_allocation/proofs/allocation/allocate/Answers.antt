@@ -5,9 +5,10 @@ use Rattle.back_liveness.specs.Liveness.{OnlyCrossed, AreStructured, AreTight, C
 use Rattle.back_liveness.specs.Points.{EndBy}
 use Rattle.back_allocation.specs.Constants.{AreKept, AreKeptParts}
 use Rattle.back_allocation.specs.LineSteps.{landings_in, steps_from}
+use Rattle.back_allocation.specs.Slots.{AreLives}
 use Rattle.back_allocation.proofs.Choosing.{kept_inside, chosen_well}
 use Rattle.back_allocation.proofs.Stepping.{step_count}
-use Rattle.back_allocation.proofs.Wanted.{slots_wanted}
+use Rattle.back_allocation.proofs.Wanted.{slots_wanted, lives_are}
 use Rattle.back_allocation.proofs.allocation.allocate.Goals as goal
 
 pub linear_scan-requires-clause-inside : goal.linear_scan-requires-clause-inside
@@ -54,6 +55,13 @@ returns-clause-slots c =
     (subst (λ (n : ℕ). EndBy n found) (ap length c.in_ok-steps.ensures ∙ step_count landings 0 c.args.lines.now) c.in_ok-found.ensures.ends)
     (subst (λ (b : List Barrier). OnlyCrossed b found c.in_ok-found.found.crossed) c.as_slice.ensures.value c.in_ok-found.ensures.only)
     c.in_ok-barriers.ensures.only kept c.in_ok-wishes.ensures.asked c.in_ok-allocation.ensures
+
+pub returns-clause-lives : goal.returns-clause-lives
+returns-clause-lives c =
+    let found = c.in_ok-found.found in
+    subst (λ (s : List Step). AreLives s (length c.args.owners.now) found.intervals) c.in_ok-steps.ensures
+    (lives_are c.in_ok-steps.steps c.as_slice.result.now (length c.args.owners.now) found.intervals found.parts found.crossed c.in_ok-found.ensures.count
+    c.in_ok-found.ensures.covers c.in_ok-found.ensures.alive)
 
 pub returns-clause-tight : goal.returns-clause-tight
 returns-clause-tight c structured =

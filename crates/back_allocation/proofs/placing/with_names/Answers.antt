@@ -1,6 +1,6 @@
 use Rattle.std.proofs.Common.{rules, ◌≡◌, ◌≤◌, ◌<◌, ℕ, true, List, length, subst, sym, arith}
 use Rattle.back_liveness.specs.declared.barrier.Barrier.{Barrier}
-use Rattle.back_allocation.specs.Names.{IsPassedIn}
+use Rattle.back_allocation.specs.Names.{AreNamings, IsPassedIn}
 use Rattle.back_allocation.specs.NamesFound.{owner_in}
 use Rattle.back_allocation.specs.Places.{place_in, ChosenWell, enters_in, begins_in}
 use Rattle.back_allocation.specs.LineSteps.{landings_in}
@@ -50,5 +50,7 @@ pub returns-clause-reasons : goal.returns-clause-reasons
 returns-clause-reasons c =
     let chosen = c.in_ok-chosen.chosen in
     for_reasons c.args.procedure.now c.in_ok-placed.placed c.in_ok-lines.lines c.as_slice-owners.result.now c.args.landings.now chosen.constants.items chosen.lives
-    chosen.parts chosen.allocation.spots.items c.in_ok-placed.ensures.lines c.requires.landings c.in_ok-placed.ensures.places c.in_ok-chosen.ensures.slots
+    chosen.parts chosen.allocation.spots.items c.in_ok-placed.ensures.lines c.requires.landings
+    (subst (λ (os : List ℕ). AreNamings (owner_in os) (length os) c.args.procedure.now.lines c.in_ok-lines.lines) (sym c.as_slice-owners.ensures.value) c.in_ok-lines.ensures)
+    c.in_ok-placed.ensures.places c.in_ok-chosen.ensures.lives c.in_ok-chosen.ensures.slots
     c.in_ok-chosen.ensures.tight
