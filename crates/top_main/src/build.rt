@@ -8,11 +8,11 @@ ghost use Rattle.top_main.specs.Theorem.{IsTextOf};
 ghost use Rattle.top_main.specs.Answers.{WriteAnswers, BuildAnswers};
 
 use crate::kept::Kept;
+use crate::reading::read_program;
 use crate::writing::write_bytes;
 use back_build::build;
 use base::{Bytes, LONGEST_TEXT, NoMemory, Shelf, Sink};
-use front_files::{Mode, Whole, read_program};
-use front_library::PRELUDE;
+use front_files::{Mode, Whole};
 use rv_image_file::write_image;
 use rv_machine::Image;
 use std::alloc::Global;
@@ -50,7 +50,7 @@ fn build_text<O: Sink>(alloc: Global, text: Bytes, out: &mut O, kept: &mut Kept)
         WriteAnswers result ToBuild held kept.new.image (O.given out.old) (O.given out.new) ⊥
         (Rose (O.faults out.old) (O.faults out.new)) (out.new ≡ out.old) }
 {
-    match read_program(alloc, text.as_slice(), PRELUDE, Mode::Run) {
+    match read_program(alloc, text.as_slice(), Mode::Run) {
         Ok(whole) => {
             drop(text);
             let answer = build_whole(alloc, &whole, out, kept);

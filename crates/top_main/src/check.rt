@@ -6,10 +6,10 @@ ghost use Rattle.top_command.specs.declared.command.Action.TheVariants.{Check as
 ghost use Rattle.top_main.specs.Theorem.{IsTextOf};
 ghost use Rattle.top_main.specs.Answers.{WriteAnswers};
 
+use crate::reading::read_program;
 use crate::writing::write_bytes;
 use base::{Bytes, LONGEST_TEXT, Shelf, Sink};
-use front_files::{Mode, read_program};
-use front_library::PRELUDE;
+use front_files::Mode;
 use std::alloc::Global;
 use top_exec::{LoadStop, loading};
 use top_lines::CommandAnswer;
@@ -39,7 +39,7 @@ fn check<O: Sink>(alloc: Global, text: Bytes, out: &mut O) -> CommandAnswer
         WriteAnswers result ToCheck held None (O.given out.old) (O.given out.new) ⊥
         (Rose (O.faults out.old) (O.faults out.new)) (out.new ≡ out.old) }
 {
-    match read_program(alloc, text.as_slice(), PRELUDE, Mode::Run) {
+    match read_program(alloc, text.as_slice(), Mode::Run) {
         Ok(whole) => {
             drop(text);
             drop(whole);

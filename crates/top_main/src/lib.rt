@@ -12,6 +12,7 @@ mod make;
 mod mode;
 mod name;
 mod plain;
+mod reading;
 mod run;
 mod writing;
 

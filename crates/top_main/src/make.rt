@@ -10,10 +10,10 @@ ghost use Rattle.top_exec.specs.Runs.{sent_to};
 ghost use Rattle.top_main.specs.Answers.{ProgramAnswers, FileAnswers, BytesAnswers, MadeAnswers};
 
 use crate::kept::Kept;
+use crate::reading::read_program;
 use crate::run::{ProgramRun, run};
 use base::{Failed, NoMemory, Sink, Source};
-use front_files::{Mode, Whole, read_program};
-use front_library::PRELUDE;
+use front_files::{Mode, Whole};
 use std::alloc::Global;
 use top_exec::Bounds;
 use top_lines::{CommandAnswer, write_counts};
@@ -42,7 +42,7 @@ pub(crate) fn make_text<S: Source, O: Sink>(
         Ok(text) => text,
         Err(NoMemory) => return CommandAnswer::NoMemory,
     };
-    match read_program(alloc, text.as_slice(), PRELUDE, Mode::Run) {
+    match read_program(alloc, text.as_slice(), Mode::Run) {
         Ok(whole) => {
             drop(text);
             let answer = make(alloc, &whole, bounds, input, out, kept);

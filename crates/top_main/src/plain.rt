@@ -7,10 +7,10 @@ ghost use Rattle.top_main.specs.Answers.{ProgramAnswers, FileAnswers};
 ghost use Rattle.top_command.specs.declared.command.Action.TheVariants.{Plain as ToEvaluate};
 
 use crate::ended::answer_of;
+use crate::reading::read_program;
 use base::{LONGEST_TEXT, NoMemory, Shelf, Sink, Source};
 use eval_run::evaluate;
-use front_files::{Mode, Whole, read_program};
-use front_library::PRELUDE;
+use front_files::{Mode, Whole};
 use std::alloc::Global;
 use top_exec::{Bounds, LoadStop, loading};
 use top_lines::CommandAnswer;
@@ -36,7 +36,7 @@ pub(crate) fn plain_file<F: Shelf, S: Source, O: Sink>(
         Err(LoadStop::Failed) => return CommandAnswer::FileFault,
         Err(LoadStop::NoMemory) => return CommandAnswer::NoMemory,
     };
-    match read_program(alloc, text.as_slice(), PRELUDE, Mode::Run) {
+    match read_program(alloc, text.as_slice(), Mode::Run) {
         Ok(whole) => {
             drop(text);
             let answer = plain(alloc, &whole, bounds, input, out);

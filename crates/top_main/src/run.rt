@@ -11,10 +11,10 @@ use crate::ended::answer_of;
 use crate::image_run::run_program;
 use crate::kept::Kept;
 use crate::mode::mode_of;
+use crate::reading::read_program;
 use back_build::build;
 use base::{LONGEST_TEXT, NoMemory, Shelf, Sink, Source};
-use front_files::{Whole, read_program};
-use front_library::PRELUDE;
+use front_files::Whole;
 use rv_machine::Image;
 use std::alloc::Global;
 use top_command::Action;
@@ -57,7 +57,7 @@ pub(crate) fn run_file<F: Shelf, S: Source, O: Sink>(
         Err(LoadStop::Failed) => return CommandAnswer::FileFault,
         Err(LoadStop::NoMemory) => return CommandAnswer::NoMemory,
     };
-    match read_program(alloc, text.as_slice(), PRELUDE, mode_of(action)) {
+    match read_program(alloc, text.as_slice(), mode_of(action)) {
         Ok(whole) => {
             drop(text);
             let ProgramRun { answer, .. } = run(alloc, &whole, bounds, input, out, kept);

@@ -1,0 +1,4 @@
+pub mod Output
+pub mod Runs
+pub mod Compiles
+pub mod Calls
