@@ -27,10 +27,11 @@ use Rattle.rv_machine.specs.Run.{Ended}
 use Rattle.rv_machine.specs.State as machine
 use Rattle.back_claims.specs.Program.{start_words}
 use Rattle.back_build.specs.Means.{Holds, HaltsWith, EndsUnhandled, EndsFull, ImageMeans}
-use Rattle.back_build.specs.declared.built.Built.{Built}
+use Rattle.back_build.specs.Values.{LawOfValuesLeft}
+use Rattle.back_build.specs.WordsLeft.{AreWordsOf}
+use Rattle.back_build.specs.declared.building.Built.{Built}
 use Rattle.top_expansion.specs.declared.expander_run.ExpanderRun.{ExpanderRun}
 use Rattle.top_expansion.specs.Calls.{IsCompiledCall, ShowsValue, call_means}
-use Rattle.top_expansion.specs.Compiles.{AreWordsOf}
 use Rattle.top_expansion.specs.Runs.{HasRun, expander_run}
 
 no_bytes : AreBytes []
@@ -86,23 +87,23 @@ module _ (names : List (List ℕ)) (call : MacroCall) (built : Built) (c : IsCom
     abbrev x : Ended
     x = expander_run built.image
 
-    means : ImageMeans names program built.image.words built.image.entry expander_words []
-    means = c.is_compiled.built expander_words [] fits (omega arith) no_bytes
+    means : ImageMeans names program built.symbols built.image.words built.image.entry expander_words []
+    means = c.is_compiled.is_built expander_words [] fits (omega arith) no_bytes
 
     abbrev Ways : Type 0
-    Ways = (x.ending ≡ Budget) ⊎ HaltsWith names program (call_means names call) x ⊎ EndsUnhandled names program (call_means names call) x ⊎ EndsFull names program x
+    Ways = (x.ending ≡ Budget) ⊎ HaltsWith names program built.symbols (call_means names call) x ⊎ EndsUnhandled names program built.symbols (call_means names call) x ⊎ EndsFull names program built.symbols x
 
     ways : Ways
     ways = means.ends expander_instructions (omega arith)
 
     -- it halts as the program does
-    halts : (word : ℕ) → x.ending ≡ Halt word → Ways → HaltsWith names program (call_means names call) x
+    halts : (word : ℕ) → x.ending ≡ Halt word → Ways → HaltsWith names program built.symbols (call_means names call) x
     halts word e (inl b) = let is : Halt word ≡ Budget = sym e ∙ b in absurd (cc)
     halts word e (inr (inl h)) = h
     halts word e (inr (inr (inl u))) = let is : Halt word ≡ Unhandled u.class = sym e ∙ u.ending in absurd (cc)
     halts word e (inr (inr (inr f))) = let is : Halt word ≡ Full f.asked f.left = sym e ∙ f.ending in absurd (cc)
 
-    signals : (class : ℕ) → x.ending ≡ Unhandled class → Ways → EndsUnhandled names program (call_means names call) x
+    signals : (class : ℕ) → x.ending ≡ Unhandled class → Ways → EndsUnhandled names program built.symbols (call_means names call) x
     signals class e (inl b) = let is : Unhandled class ≡ Budget = sym e ∙ b in absurd (cc)
     signals class e (inr (inl h)) = let is : Unhandled class ≡ Halt h.word = sym e ∙ h.ending in absurd (cc)
     signals class e (inr (inr (inl u))) = u
@@ -114,11 +115,11 @@ module _ (names : List (List ℕ)) (call : MacroCall) (built : Built) (c : IsCom
         let h = halts word e ways in
         has_printed expander expander_instructions h.result h.end (λ silent. heard (h.printed ∙ silent))
 
-    pub of_silent : (word : ℕ) → x.ending ≡ Halt word → x.at.printed ≡ [] → ShowsValue names call built x.at.state word
-    of_silent word e silent =
+    pub of_silent : LawOfValuesLeft → (word : ℕ) → x.ending ≡ Halt word → x.at.printed ≡ [] → ShowsValue names call built x.at.state word
+    of_silent values word e silent =
         let h = halts word e ways in
         record {
-          leaves = c.is_compiled.values expander_words [] fits (omega arith) no_bytes expander_instructions (omega arith) word e;
+          leaves = values names program built.symbols built.image c.is_compiled.is_built expander_words [] fits (omega arith) no_bytes expander_instructions (omega arith) word e;
           silent = sym h.printed ∙ silent;
         }
 
@@ -145,7 +146,7 @@ module _ (names : List (List ℕ)) (call : MacroCall) (built : Built) (c : IsCom
     of_full asked left e = by_room asked left e (cases_lt expander_words (length built.image.words + start_words))
 
     pub of_budget : x.ending ≡ Budget → Stops ExpanderBudget
-    of_budget e = elim (c.is_compiled.paid expander_words [] fits (omega arith) no_bytes expander_instructions (omega arith) e) [
+    of_budget e = elim (means.paid expander_instructions (omega arith) e) [
       | inl more ↦ endless expander more
       | inr (ended, dear) ↦ long expander expander_instructions ended dear
     ]
@@ -203,9 +204,9 @@ module _ (names : List (List ℕ)) (call : MacroCall) (built : Built) (c : IsCom
     pub prints : (word : ℕ) → run.ending ≡ Halt word → run.printed ≡ true → Stops ExpanderPrinted
     prints word e printed = of_printed fits word (sym h.ending ∙ e) (h.heard printed)
 
-    pub shows : (word : ℕ) → run.ending ≡ Halt word → run.printed ≡ false → ShowsValue names call built run.machine.state word
-    shows word e silent =
-        subst (λ (s : machine.State). ShowsValue names call built s word) (sym h.state) (of_silent fits word (sym h.ending ∙ e) (h.silent silent))
+    pub shows : LawOfValuesLeft → (word : ℕ) → run.ending ≡ Halt word → run.printed ≡ false → ShowsValue names call built run.machine.state word
+    shows values word e silent =
+        subst (λ (s : machine.State). ShowsValue names call built s word) (sym h.state) (of_silent fits values word (sym h.ending ∙ e) (h.silent silent))
 
     pub is_signalled : (class : ℕ) → run.ending ≡ Unhandled class → Stops ExpanderUnhandled
     is_signalled class e = of_unhandled fits class (sym h.ending ∙ e)

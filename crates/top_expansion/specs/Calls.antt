@@ -7,12 +7,13 @@ use Rattle.front_profile.specs.Expanders.{program_of}
 use Rattle.front_profile.specs.Expansions.{expander_instructions, expander_means, most_expander_nodes}
 use Rattle.front_programs.specs.declared.expanding.MacroCall.{MacroCall}
 use Rattle.rv_machine.specs.State as machine
-use Rattle.back_build.specs.declared.built.Built.{Built}
-use Rattle.top_expansion.specs.Compiles.{IsCompiled, LeavesValue}
+use Rattle.back_build.specs.declared.building.Built.{Built}
+use Rattle.back_build.specs.Values.{LeavesValue}
+use Rattle.top_expansion.specs.Compiles.{IsCompiled}
 
 -- its program was compiled, and has few nodes
 pub record IsCompiledCall (names : List (List ℕ)) (call : MacroCall) (built : Built) : Type 0 where
-  pub is_compiled : IsCompiled names (program_of call.tables.now call.macro_number call.datum.now) built.image built.symbols
+  pub is_compiled : IsCompiled names (program_of call.tables.now call.macro_number call.datum.now) built
   pub small : program_nodes (program_of call.tables.now call.macro_number call.datum.now) ≤ most_expander_nodes
 
 -- what its expander means, with as many levels as it may take instructions

@@ -15,7 +15,7 @@ use std::alloc::Global;
 pub(crate) fn compile(alloc: Global, names: &Names, program: &Program) -> Result<Built, NoMemory>
     ensures { IfOk result (λ built. IsCompiled names.now program.now built) }
 {
-    let are = are_names_below(program, names.len())?;
+    let are = are_names_below(program, names.len());
     if !are {
         return Err(NoMemory);
     }

@@ -11,7 +11,7 @@ ghost use Rattle.top_expansion.specs.Runs.{HasRun};
 
 use crate::compiling::compile;
 use crate::expander_run::{ExpanderRun, WORDS, are_words, run_expander};
-use back_build::Built;
+use back_build::{Built, law_values_left};
 use base::{Datum, Names, Place, Reason, Stop};
 use front_programs::{Expanding, MacroCall, refused};
 use lang_alike::law_alike_data;
@@ -115,6 +115,7 @@ fn halted(
     ensures expands { IfOk result (CallExpands names.now call.now) }
     ensures stops { IfErr result (CallStops names.now call.now) }
 {
+    law_values_left();
     if run.printed {
         return Err(refused(call.datum, Reason::ExpanderPrinted));
     }

@@ -11,5 +11,5 @@ returns-then-run-clause-stops c =
 
 pub datum_of-requires-clause-shows : goal.datum_of-requires-clause-shows
 datum_of-requires-clause-shows c =
-    shows c.args.names.now c.args.call.now c.args.built.now c.requires.call c.args.run.now c.requires.fits c.requires.run c.args.word c.requires.ending
-    c.if-run.false
+    shows c.args.names.now c.args.call.now c.args.built.now c.requires.call c.args.run.now c.requires.fits c.requires.run c.law_values_left.ensures c.args.word
+    c.requires.ending c.if-run.false
