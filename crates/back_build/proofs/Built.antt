@@ -25,7 +25,7 @@ use Rattle.back_runs.specs.Images.{HasStart}
 use Rattle.back_words.specs.Asked.{NamesAsked}
 use Rattle.back_lowered.specs.declared.lowering.LoweredProgram.{LoweredProgram}
 use Rattle.back_lowered.specs.Lowered.{IsLoweredProgram}
-use Rattle.back_build.specs.Built.{code_with, entry_of}
+use Rattle.back_build.specs.Built.{code_with, entry_of, symbols_of}
 use Rattle.back_build.specs.Means.{ImageMeans}
 use Rattle.back_build.specs.Compiled.{IsCompiled, IsImageMade, LawOfCompiled, LawOfBuilt}
 use Rattle.back_build.proofs.Entry.{lowered_long}
@@ -107,7 +107,7 @@ module _ (laws : Laws) (names : List (List ℕ)) (program : ProgramRows) (l : Lo
   entry = entry_of names (flat_program program) l
 
   module _ (arena : ℕ) (input : List ℕ) (fits : length image.words ≤ arena) (small : arena ≤ 2 ^ 24) (bytes : AreBytes input) where
-    means : ImageMeans names program image.words image.entry arena input
+    means : ImageMeans names program (symbols_of l) image.words image.entry arena input
     means =
         let d = laws.placed_laid_out code is.made.chosen is.made.places is.made.low in
         let g = d.good in
@@ -118,7 +118,7 @@ module _ (laws : Laws) (names : List (List ℕ)) (program : ProgramRows) (l : Lo
         is.made.low is.made.laid) in
         let front = within (length l.words.data.arena.words) decided.code_to (length image.words) (front_within lines (placed_decided code is.made.chosen)) starts.whole in
         let first = laws.first_of_image code (length l.procedures - 1) arena image input is.checked is.made fits small (bytes_small input bytes) in
-        subst (λ at. ImageMeans names program image.words at arena input) (sym is.made.starts)
+        subst (λ at. ImageMeans names program (symbols_of l) image.words at arena input) (sym is.made.starts)
         (laws.compiled names program l l.procedures compiled decided d.known d.good (emitted_start code) image.words arena input
         (procedure_lines p.0) starts (line_there l.procedures entry p.0 p.1) front fits small first bytes)
 

@@ -24,7 +24,7 @@ use Rattle.back_levels.specs.Laid.{LawOfRightPrograms}
 use Rattle.back_lowered.specs.declared.lowering.LoweredProgram.{LoweredProgram}
 use Rattle.back_runs.specs.Images.{HasStart, IsFirst, first_state}
 use Rattle.back_meant.specs.Laws.{LawOfMeantRuns}
-use Rattle.back_build.specs.Built.{code_with, entry_of}
+use Rattle.back_build.specs.Built.{code_with, entry_of, symbols_of}
 use Rattle.back_build.specs.Laws.{LawOfWholeMeaning}
 use Rattle.back_build.specs.Means.{Holds, ImageMeans}
 use Rattle.back_build.specs.Compiled.{IsCompiled, LawOfCompiled}
@@ -72,9 +72,9 @@ module _ (laws : Laws) (names : List (List ℕ)) (program : ProgramRows) (l : Lo
         (d : Located) (known : (number line register : ℕ) → Place → Bool) → IsGood (program_lines (code_with l used)) d (Known known)
         → (at : ℕ) (p : LineProcedure) → HasStart (program_lines (code_with l used)) d at (entry_of names (flat_program program) l) image
         → slice_get (program_lines (code_with l used)).procedures (entry_of names (flat_program program) l) ≡ Some p
-        → IsFirst d image arena input y → ImageMeans names program image (4 * at) arena input
+        → IsFirst d image arena input y → ImageMeans names program (symbols_of l) image (4 * at) arena input
     means d known good at p starts there first =
-        laws.whole_meaning program (setting unlimited 0) is.whole refl at image arena input world y (λ charge turns holds. begins_in charge turns holds)
+        laws.whole_meaning program (setting unlimited 0) (symbols_of l) is.whole refl is.lowered.words.start.stands.listed is.lowered.words.start.stands.once at image arena input world y (λ charge turns holds. begins_in charge turns holds)
         (laws.meant_runs laws.lowering (setting unlimited 0) l.words.data.arena.words d known
         (λ limit turns. laws.right_programs program (setting limit turns) l.words.data
         (is_laid names program l is.lowered leads used is.frames is.whole is.boxes is.table is.asked is.low limit turns))

@@ -13,6 +13,7 @@ use Rattle.lang_reached.specs.Remaining.{KeepsReached}
 use Rattle.rv_machine.specs.declared.ending.Ending.TheVariants.{Budget}
 use Rattle.rv_machine.specs.declared.image.Image.{Image}
 use Rattle.rv_machine.specs.Run.{Ended, run_of}
+use Rattle.mid_start.specs.declared.symbol_words.SymbolWord.{SymbolWord}
 use Rattle.back_image_sizes.specs.Sizes.{program_image_words}
 use Rattle.back_build.specs.Means.{HasWord, HaltsWith, EndsUnhandled, EndsFull, IsFull, ImageMeans}
 use Rattle.back_build.specs.Compiled.{LawOfLeft}
@@ -21,13 +22,13 @@ use Rattle.back_build.specs.Reached.{IsSized}
 use Rattle.back_build.specs.declared.faults.BuildFault.{BuildFault}
 use Rattle.back_build.specs.declared.faults.BuildFault.TheVariants as fault
 
-module _ (names : List (List ℕ)) (program : ProgramRows) (procedures : List Procedure) where
+module _ (names : List (List ℕ)) (program : ProgramRows) (symbols : List SymbolWord) (procedures : List Procedure) where
   -- a program with other procedures
   abbrev left : ProgramRows
   left = record program { procedures = procedures }
 
   -- all that an end speaks of is the same
-  has_word : (m : Meant) (x : Ended) (v : Value) (word : ℕ) → HasWord names left m x v word → HasWord names program m x v word
+  has_word : (m : Meant) (x : Ended) (v : Value) (word : ℕ) → HasWord names left symbols m x v word → HasWord names program symbols m x v word
   has_word m x v word h = record {
     places = h.places;
     state = h.state;
@@ -36,9 +37,12 @@ module _ (names : List (List ℕ)) (program : ProgramRows) (procedures : List Pr
     represents = h.represents;
     of_value = h.of_value;
     leaves = h.leaves;
+    listed = h.listed;
+    once = h.once;
+    serials = h.serials;
   }
 
-  halts : (m : Meant) (x : Ended) → HaltsWith names left m x → HaltsWith names program m x
+  halts : (m : Meant) (x : Ended) → HaltsWith names left symbols m x → HaltsWith names program symbols m x
   halts m x h = record {
     word = h.word;
     ending = h.ending;
@@ -48,7 +52,7 @@ module _ (names : List (List ℕ)) (program : ProgramRows) (procedures : List Pr
     printed = h.printed;
   }
 
-  unhandled : (m : Meant) (x : Ended) → EndsUnhandled names left m x → EndsUnhandled names program m x
+  unhandled : (m : Meant) (x : Ended) → EndsUnhandled names left symbols m x → EndsUnhandled names program symbols m x
   unhandled m x h = record {
     class = h.class;
     ending = h.ending;
@@ -61,45 +65,45 @@ module _ (names : List (List ℕ)) (program : ProgramRows) (procedures : List Pr
     printed = h.printed;
   }
 
-  no_room : (x : Ended) → EndsFull names left x → EndsFull names program x
+  no_room : (x : Ended) → EndsFull names left symbols x → EndsFull names program symbols x
   no_room x h = record { asked = h.asked; left = h.left; ending = h.ending }
 
-  no_room_left : (x : Ended) → EndsFull names program x → EndsFull names left x
+  no_room_left : (x : Ended) → EndsFull names program symbols x → EndsFull names left symbols x
   no_room_left x h = record { asked = h.asked; left = h.left; ending = h.ending }
 
-  is_full : (m : Meant) → IsFull names left m → IsFull names program m
+  is_full : (m : Meant) → IsFull names left symbols m → IsFull names program symbols m
   is_full m h = record { asked = h.asked; left = h.left; end = h.end }
 
   -- and so it is where both mean the same
   module _ (input : List ℕ) (same : (levels : ℕ) (limit : Limit) → meaning names left input levels limit ≡ meaning names program input levels limit)
-      (image : List ℕ) (entry arena : ℕ) (h : ImageMeans names left image entry arena input) where
+      (image : List ℕ) (entry arena : ℕ) (h : ImageMeans names left symbols image entry arena input) where
     abbrev the_run : ℕ → Ended
     the_run n = run_of image entry arena input n
 
-    halts_so : (k : ℕ) (limit : Limit) (x : Ended) → HaltsWith names left (meaning names left input k limit) x
-        → HaltsWith names program (meaning names program input k limit) x
-    halts_so k limit x e = subst (λ m. HaltsWith names program m x) (same k limit) (halts (meaning names left input k limit) x e)
+    halts_so : (k : ℕ) (limit : Limit) (x : Ended) → HaltsWith names left symbols (meaning names left input k limit) x
+        → HaltsWith names program symbols (meaning names program input k limit) x
+    halts_so k limit x e = subst (λ m. HaltsWith names program symbols m x) (same k limit) (halts (meaning names left input k limit) x e)
 
-    unhandled_so : (k : ℕ) (limit : Limit) (x : Ended) → EndsUnhandled names left (meaning names left input k limit) x
-        → EndsUnhandled names program (meaning names program input k limit) x
-    unhandled_so k limit x e = subst (λ m. EndsUnhandled names program m x) (same k limit) (unhandled (meaning names left input k limit) x e)
+    unhandled_so : (k : ℕ) (limit : Limit) (x : Ended) → EndsUnhandled names left symbols (meaning names left input k limit) x
+        → EndsUnhandled names program symbols (meaning names program input k limit) x
+    unhandled_so k limit x e = subst (λ m. EndsUnhandled names program symbols m x) (same k limit) (unhandled (meaning names left input k limit) x e)
 
     ends_so : (k : ℕ) (limit : Limit) (x : Ended)
-        → (x.ending ≡ Budget) ⊎ HaltsWith names left (meaning names left input k limit) x ⊎ EndsUnhandled names left (meaning names left input k limit) x
-        ⊎ EndsFull names left x
-        → (x.ending ≡ Budget) ⊎ HaltsWith names program (meaning names program input k limit) x
-        ⊎ EndsUnhandled names program (meaning names program input k limit) x ⊎ EndsFull names program x
+        → (x.ending ≡ Budget) ⊎ HaltsWith names left symbols (meaning names left input k limit) x ⊎ EndsUnhandled names left symbols (meaning names left input k limit) x
+        ⊎ EndsFull names left symbols x
+        → (x.ending ≡ Budget) ⊎ HaltsWith names program symbols (meaning names program input k limit) x
+        ⊎ EndsUnhandled names program symbols (meaning names program input k limit) x ⊎ EndsFull names program symbols x
     ends_so k limit x (inl e) = inl e
     ends_so k limit x (inr (inl e)) = inr (inl (halts_so k limit x e))
     ends_so k limit x (inr (inr (inl e))) = inr (inr (inl (unhandled_so k limit x e)))
     ends_so k limit x (inr (inr (inr e))) = inr (inr (inr (no_room x e)))
 
-    means : ImageMeans names program image entry arena input
+    means : ImageMeans names program symbols image entry arena input
     means = record {
       prefix = λ n few. subst (λ (m : Meant). IsPrefix (the_run n).at.printed m.printed) (same n unlimited) (h.prefix n few);
       ends = λ n few. ends_so n unlimited (the_run n) (h.ends n few);
       full = λ n few f charge k holds le.
-          subst (IsFull names program) (same k (words charge))
+          subst (IsFull names program symbols) (same k (words charge))
           (is_full (meaning names left input k (words charge)) (h.full n few (no_room_left (the_run n) f) charge k holds le));
       in_time = λ charge k n holds low paid.
           let e : meaning names left input k (words charge) ≡ meaning names program input k (words charge) = same k (words charge) in
@@ -111,11 +115,11 @@ module _ (names : List (List ℕ)) (program : ProgramRows) (procedures : List Pr
 
 -- **the law of what is left**
 pub law_of_left : LawOfLeft
-law_of_left names program rest keeps same image built arena input fits small bytes =
-    means names program rest.procedures input
+law_of_left names program rest keeps same symbols image built arena input fits small bytes =
+    means names program symbols rest.procedures input
     (subst (λ (r : ProgramRows). (levels : ℕ) (limit : Limit) → meaning names r input levels limit ≡ meaning names program input levels limit) keeps.rows (same input))
     image.words image.entry arena
-    (subst (λ (r : ProgramRows). ImageMeans names r image.words image.entry arena input) keeps.rows (built arena input fits small bytes))
+    (subst (λ (r : ProgramRows). ImageMeans names r symbols image.words image.entry arena input) keeps.rows (built arena input fits small bytes))
 
 -- no more nodes, and so no more words
 no_more : (each a b main functions classes generics start : ℕ) → a ≤ b

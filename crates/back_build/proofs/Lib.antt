@@ -12,3 +12,4 @@ mod Failing
 mod Sized
 mod Left
 mod WordsLeft
+mod Values

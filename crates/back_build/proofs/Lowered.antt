@@ -54,6 +54,7 @@ module _ (names : List (List ℕ)) (program : ProgramRows) (l : LoweredProgram) 
     variable_words = variable_count names (flat_program program);
     further = is.words.further;
     further_at = is.words.start.further_at;
+    symbols = is.words.start.places.symbols;
     procedures = used;
     frames = subst (λ given. FramesWithin given used) is.procedures frames;
     turns_each = turns;
@@ -64,6 +65,7 @@ module _ (names : List (List ℕ)) (program : ProgramRows) (l : LoweredProgram) 
     words = record { placement = is.words.placement; variables = refl; further = is.words.further_is };
     start = is.words.start;
     at = refl;
+    symbols = refl;
   }
 
   module _ (whole : is_whole program ≡ true) (boxes : ProgramBoxes (flat_program program)) (table : IsTable names) (asked : NamesAsked names (flat_program program))

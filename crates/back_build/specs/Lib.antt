@@ -8,3 +8,4 @@ pub mod Counted
 pub mod Reached
 pub mod Faults
 pub mod WordsLeft
+pub mod Values

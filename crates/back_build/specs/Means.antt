@@ -1,9 +1,11 @@
 -- **What the image of a program does**, in words of what the program means: with an input, in an arena of so many words.
-use Rattle.std.specs.Prelude.{◌≡◌, ◌⊎◌, ◌<◌, ◌≤◌, ℕ, ◌+◌, ◌^◌, List, length, slice_index, Some}
+-- The symbols that are laid in it are told, with their words.
+use Rattle.std.specs.Prelude.{◌≡◌, ◌⊎◌, ◌<◌, ◌≤◌, ℕ, ◌+◌, ◌^◌, List, length, slice_get, slice_index, Some}
 use Rattle.base.specs.declared.place.Place.{Place}
 use Rattle.lang_meaning.specs.declared.program.ProgramRows.{ProgramRows}
 use Rattle.lang_meaning.specs.Counts.{bound}
 use Rattle.lang_meaning.specs.Meaning.{Meant, meaning, ended_value, ended_unhandled, ended_full, class_in, place_of_site}
+use Rattle.lang_meaning.specs.Objects.{fresh_symbol}
 use Rattle.lang_meaning.specs.Prefixes.{IsPrefix}
 use Rattle.lang_meaning.specs.State.{State, no_place, words, unlimited}
 use Rattle.lang_meaning.specs.Values.{Value}
@@ -17,6 +19,8 @@ use Rattle.mid_code.specs.State.{MidState}
 use Rattle.mid_arena.specs.Layouts.{AreBytes}
 use Rattle.mid_arena.specs.Places.{Places, word_of}
 use Rattle.mid_arena.specs.Represents.{Represents}
+use Rattle.mid_start.specs.declared.symbol_words.SymbolWord.{SymbolWord}
+use Rattle.mid_start.specs.LaidWell.{AreSymbolsThere, AreDistinct}
 use Rattle.back_claims.specs.Program.{start_words}
 use Rattle.back_runs.specs.Ends.{Leaves}
 
@@ -24,8 +28,10 @@ use Rattle.back_runs.specs.Ends.{Leaves}
 abbrev pub Holds : (arena : ℕ) (image : List ℕ) (charge : ℕ) → Type 0
 Holds arena image charge = charge + start_words + length image ≤ arena
 
-module _ (names : List (List ℕ)) (program : ProgramRows) where
-  -- a word that stands for a value, in the memory with which a run ended; the objects there are those that the program left, but for functions
+module _ (names : List (List ℕ)) (program : ProgramRows) (symbols : List SymbolWord) where
+  -- A word that stands for a value, in the memory with which a run ended; the objects there are those that the program
+  -- left, but for functions. The symbols that have words are those that were laid, each once, and the serials of those
+  -- that the run made have 29 bits.
   pub record HasWord (m : Meant) (x : Ended) (v : Value) (word : ℕ) : Type 0 where
     pub places : Places
     pub state : State
@@ -34,6 +40,9 @@ module _ (names : List (List ℕ)) (program : ProgramRows) where
     pub represents : Represents names (tables (flat_program program)) places state arena
     pub of_value : word_of places v ≡ Some word
     pub leaves : Leaves arena x.at
+    pub listed : AreSymbolsThere names symbols places.symbols
+    pub once : AreDistinct places.symbols
+    pub serials : (i serial : ℕ) → slice_get state.store i ≡ Some (fresh_symbol serial) → serial < 2 ^ 29
 
   -- a site by its number; 0 is that of none
   abbrev pub IsSite : ℕ → Place → Type 0
@@ -100,8 +109,9 @@ module _ (names : List (List ℕ)) (program : ProgramRows) where
           × ((c : Value) (place : Place) → (meaning names program input k (words charge)).end ≡ ended_unhandled c place
           → EndsUnhandled (meaning names program input k (words charge)) (the_run n))
 
--- **an image that was built of a program**: in every arena that has room for it, with every input of bytes, it does what the program means
-abbrev pub IsBuilt : (names : List (List ℕ)) (program : ProgramRows) → Image → Type 0
-IsBuilt names program image =
+-- **an image that was built of a program**, with the symbols that are laid in it: in every arena that has room for it,
+-- with every input of bytes, it does what the program means
+abbrev pub IsBuilt : (names : List (List ℕ)) (program : ProgramRows) → List SymbolWord → Image → Type 0
+IsBuilt names program symbols image =
     (arena : ℕ) (input : List ℕ) → length image.words ≤ arena → arena ≤ 2 ^ 24 → AreBytes input
-    → ImageMeans names program image.words image.entry arena input
+    → ImageMeans names program symbols image.words image.entry arena input

@@ -3,6 +3,7 @@
 ghost use Rattle.back_build.specs.Laws.{LawOfWholeMeaning};
 ghost use Rattle.back_build.specs.Compiled.{LawOfCompiled, LawOfBuilt, LawOfBuiltSize, LawOfLeft};
 ghost use Rattle.back_build.specs.WordsLeft.{LawOfWordsLeft};
+ghost use Rattle.back_build.specs.Values.{LawOfValuesLeft};
 
 use back_images::law_images;
 use back_layout::law_placed_laid_out;
@@ -60,4 +61,9 @@ pub fn law_left()
 /// The words of the machine's memory are, at each address that is lent, those of the arena with which a run ended.
 pub fn law_words_left()
     ensures { LawOfWordsLeft }
+{}
+
+/// Where a run of an image that was built has halted, its word is taken for the value of the program.
+pub fn law_values_left()
+    ensures { LawOfValuesLeft }
 {}

@@ -10,8 +10,9 @@ mod inside;
 pub mod laws;
 mod names_there;
 
-pub use building::build;
+pub use building::{Built, build};
 pub use faults::BuildFault;
 pub use laws::{
-    law_built, law_built_size, law_compiled, law_left, law_whole_meaning, law_words_left,
+    law_built, law_built_size, law_compiled, law_left, law_values_left, law_whole_meaning,
+    law_words_left,
 };

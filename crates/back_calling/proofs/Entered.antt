@@ -89,7 +89,7 @@ things_same_words setting {w} {z} {y} {y'} t same grows printed input =
     were i gone e = tt
 
     moves : Moves w w.boxes y y' landing_address
-    moves = record { same = λ x h. same x; count = refl; were = were; kept = λ i a e. e }
+    moves = record { same = λ x h. same x; heap = grows.heap.heap_to; count = refl; were = were; kept = λ i a e. e }
 
 -- ---- a frame
 

@@ -16,9 +16,10 @@ use Rattle.back_relation.specs.Things.{Things}
 use Rattle.back_relation.proofs.Moving.{BoxWas, Goes, things_go_on}
 use Rattle.back_calling.specs.Storing.{IsControl}
 
--- all words but one are as they were, and no variable stands there
+-- all words but one are as they were, and no variable stands there; the heap is no smaller
 pub record Moves (w : World) (boxes : List BoxPlace) (y y' : MidState) (skip : ℕ) : Type 0 where
   pub same : (x : ℕ) → (x ≡ skip → ⊥) → word_at y'.arena x ≡ word_at y.arena x
+  pub heap : y.arena.heap_to ≤ y'.arena.heap_to
   pub count : length boxes ≡ length w.boxes
   pub were : (i : ℕ) (b : BoxPlace) → slice_get boxes i ≡ Some b → BoxWas w y.arena y'.arena i b
   pub kept : (i a : ℕ) → slice_get w.boxes i ≡ Some (on_heap a) → slice_get boxes i ≡ Some (on_heap a)
@@ -40,6 +41,7 @@ module _ (setting : Setting) {w : World} {z : FlatState} {y y' : MidState} {boxe
   goes : Goes setting w boxes w.exit_forms z.state.exits z y y'
   goes = record {
     represents = represents;
+    heap = g.heap;
     objects = λ i s e. beside (of_object i) s refl e;
     others = λ n s late e. beside (of_other n) s (ne_eqb n 1 (λ same. omega arith)) e;
     globals = λ n has. named _ has;

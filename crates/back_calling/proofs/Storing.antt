@@ -61,6 +61,7 @@ module _ (setting : Setting) {w : World} {z : FlatState} {y : MidState} (t : Thi
     moves : Moves w (boxes_cut (stack_from y.arena) w.boxes) y y' skip
     moves = record {
       same = word_beside;
+      heap = omega arith;
       count = cut_count (stack_from y.arena) w.boxes;
       were = were;
       kept = (later_cut (stack_from y.arena) w).boxes;

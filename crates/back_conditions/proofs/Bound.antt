@@ -168,6 +168,8 @@ module _ (setting : Setting) {w : World} {z : FlatState} {y : MidState} (t : Thi
       dynamics = t.dynamics;
       literals = λ i l e. literal_is i l _ (t.literals i l e);
       symbols = t.symbols;
+      laid_symbols = t.laid_symbols;
+      fresh_symbols = t.fresh_symbols;
       box_count = length-append w.boxes places ∙ counts ∙ sym (length-append z.state.variables vs);
       boxes_apart = record {
         heap = λ i j x e f.

@@ -32,6 +32,7 @@ use Rattle.back_relation.specs.Setting.{Setting, control_spot}
 use Rattle.back_relation.specs.Worlds.{World}
 use Rattle.back_relation.specs.Things.{Things, WithinLimit}
 use Rattle.back_relation.specs.Ends.{ChargedFrom}
+use Rattle.back_relation.proofs.Fresh.{fresh_was, fresh_from}
 use Rattle.back_relation.proofs.Standing.{StandsBehind}
 use Rattle.back_relation.specs.RoutineClaims.{IsBuiltInCondition}
 
@@ -108,6 +109,8 @@ module _ (setting : Setting) {w : World} {z : FlatState} {y : MidState} (t : Thi
     globals = refl;
     dynamics = refl;
     exits = refl;
+    laid_symbols = refl;
+    fresh_symbols = fresh_from (fresh_was z.state.store made tt) refl grown.heap.heap_to t.fresh_symbols;
     functions = λ i p s e f. no_function i p s (front_or_end z.state.store made i (function p) e) f;
     still = λ i p e. get_front z.state.store (made ∷ []) i (slice_get_within z.state.store i (function p) e) ∙ e;
     generics = λ i g e. no_generic i g (front_or_end z.state.store made i (generic_function g) e);

@@ -41,6 +41,7 @@ use Rattle.mid_arena.specs.Answers.{KeepsWords}
 use Rattle.back_relation.specs.Setting.{Setting, control_spot}
 use Rattle.back_relation.specs.Worlds.{World}
 use Rattle.back_relation.specs.Things.{Things, WithinLimit}
+use Rattle.back_relation.proofs.Fresh.{fresh_from}
 use Rattle.back_relation.proofs.Standing.{StandsBehind}
 
 -- a condition is an instance
@@ -175,6 +176,10 @@ module _ (setting : Setting) {w : World} {z : FlatState} {y : MidState} (t : Thi
     globals = refl;
     dynamics = refl;
     exits = refl;
+    laid_symbols = refl;
+    fresh_symbols =
+        fresh_from (λ i serial e. no_fresh i serial (set_or_not z.state.store it.number now i (fresh_symbol serial) e)) refl (omega arith)
+        t.fresh_symbols;
     functions = λ i p s e f. (no_function i p (set_or_not z.state.store it.number now i (function p) e), f);
     still = λ i p e. set_elsewhere z.state.store it.number i now (λ same. absurd (cc (sym e ∙ ap (slice_get z.state.store) (sym same) ∙ it.stored))) ∙ e;
     generics = λ i g e. no_generic i g (set_or_not z.state.store it.number now i (generic_function g) e);
@@ -193,6 +198,10 @@ module _ (setting : Setting) {w : World} {z : FlatState} {y : MidState} (t : Thi
       no_generic : (i g : ℕ) → SetOrNot z.state.store it.number now i (generic_function g) → slice_get z.state.store i ≡ Some (generic_function g)
       no_generic i g (at_place e same) = absurd (cc same)
       no_generic i g (elsewhere other e) = e
+
+      no_fresh : (i serial : ℕ) → SetOrNot z.state.store it.number now i (fresh_symbol serial) → slice_get z.state.store i ≡ Some (fresh_symbol serial)
+      no_fresh i serial (at_place e same) = absurd (cc same)
+      no_fresh i serial (elsewhere other e) = e
 
   -- the code that sets it
   module _ (cx : Context) (r2 r3 : Option ℕ) (rest : Registers) where

@@ -28,6 +28,7 @@ module _ (setting : Setting) {w : World} {z : FlatState} {y y' : MidState} {boxe
   goes : moving.Goes setting w boxes forms exits z y y'
   goes = record {
     represents = moved.0;
+    heap = g.changes.heap_to;
     objects = λ i s e. moved.1 (of_object i) s refl e;
     others = λ n s late e. moved.1 (of_other n) s (ne_eqb n 1 (λ same. omega arith)) e;
     globals = g.globals;

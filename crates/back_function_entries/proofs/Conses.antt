@@ -36,6 +36,7 @@ use Rattle.back_relation.specs.Around.{RoomFor}
 use Rattle.back_relation.specs.Ends.{WorldKept, Around, FullThere, Stopped}
 use Rattle.back_relation.specs.Forms.{code_at}
 use Rattle.back_relation.specs.Starts.{FlatGrown}
+use Rattle.back_relation.proofs.Fresh.{fresh_was, fresh_from}
 use Rattle.back_relation.proofs.Growth.{same_prefix, same_flat, both_flat}
 use Rattle.back_primitives.proofs.Answered.{left_behind, charged_by, room_ended}
 use Rattle.back_primitives.proofs.Behind.{object_stands, request_granted, request_refused}
@@ -186,6 +187,7 @@ module _ (setting : Setting) (placed : IsPlaced setting) (k n room d t : ℕ) {w
           (represents_same setting.names (tables setting.program) (with_object spot w.places) (meaning.stored (cons v tail) z.state) (with_cons v tail z).state cons_state refl refl refl refl
           returned.represents)
           returned.kept returned.arena.size returned.blocks
+          (fresh_from (fresh_was z.state.store (cons v tail) tt) refl (let to = returned.arena.heap_to in omega (arith, to)) things.fresh_symbols)
 
       pub cons_kept : WorldKept setting w cons_world z (with_cons v tail z) y cons_state
       cons_kept = world_kept_behind setting placed things stands

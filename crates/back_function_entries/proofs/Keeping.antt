@@ -26,6 +26,7 @@ use Rattle.back_relation.specs.Worlds.{World, BoxPlace, on_heap, on_stack, gone,
 use Rattle.back_relation.specs.Things.{Things, WithinLimit, BoxStands, MethodStands}
 use Rattle.back_relation.specs.Ends.{ControlBack, ChargedFrom, WorldKept}
 use Rattle.back_relation.proofs.Cuts.{later_cut}
+use Rattle.back_relation.proofs.Fresh.{fresh_from}
 use Rattle.back_relation.proofs.Worlds.{word_later}
 use Rattle.back_relation.proofs.Boxes.{stack_stays}
 use Rattle.back_values.proofs.Cleaning.{cleaned, is_clean, things_cleaned}
@@ -143,6 +144,8 @@ module _ (setting : Setting) (placed : IsPlaced setting) {w : World} {z : FlatSt
     dynamics = λ n has. dynamics_move setting kept_state t1 later1 All same tt placed n has;
     literals = literals_move setting kept_state t1 later1 All same;
     symbols = symbols_move setting kept_state t1 later1 All same;
+    laid_symbols = t.laid_symbols;
+    fresh_symbols = fresh_from (λ i serial e. e) refl kept_grows.heap.heap_to t.fresh_symbols;
     box_count = t1.box_count;
     boxes_apart = record { heap = λ i j a e f. t1.boxes_apart.heap i j a e f; stack = λ i j a e f. t1.boxes_apart.stack i j a e f };
     boxes = box_stands;

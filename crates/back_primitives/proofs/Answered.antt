@@ -51,8 +51,9 @@ use Rattle.back_relation.specs.Room.{routine_words, words_for_handler}
 use Rattle.back_relation.specs.Around.{RoomFor}
 use Rattle.back_relation.specs.Ends.{RoomEnded}
 use Rattle.back_relation.specs.Forms.{context_at, code_at}
-use Rattle.back_relation.specs.Things.{Things, WithinLimit}
+use Rattle.back_relation.specs.Things.{FreshCounted, Things, WithinLimit}
 use Rattle.back_relation.specs.Starts.{Start, EndsAt}
+use Rattle.back_relation.proofs.Fresh.{IsNotFresh, fresh_was, fresh_from, fresh_made}
 use Rattle.back_relation.proofs.Straight.{things_cost}
 use Rattle.back_primitives.specs.Calling.{WordsIn, PrimitiveThere, PendingDoesAnywhere}
 use Rattle.back_primitives.proofs.Answers.{IsNoFunction, IsProper, answers_proper}
@@ -183,7 +184,7 @@ module _ (setting : Setting) (placed : IsPlaced setting) (k : ℕ) (a : Start se
             value_ends setting placed k a two number arguments signalling q is {word = x.word} {places = a.w.places} {z2 = z2} {c1 = 190 + 256 * arity which}
             (record {
               end = x.end;
-              stands = value_stands setting t (set_by which vs) z2 q.state keeps x.represents x.kept x.arena.size x.blocks;
+              stands = value_stands setting t (set_by which vs) z2 q.state keeps x.represents x.kept x.arena.size x.blocks (let to = x.arena.heap_to in omega (arith, to));
               charged =
                   charged_by (left a.y.arena) (left q.state.arena) a.z.state.heap z2.heap a.z.state.stack z2.stack 0
                   (left_behind a.y.arena q.state.arena 0 x.represents.arena x.arena.size x.blocks x.arena.heap_to) (omega (arith, keeps.heap)) (omega (arith, keeps.stack));
@@ -203,13 +204,13 @@ module _ (setting : Setting) (placed : IsPlaced setting) (k : ℕ) (a : Start se
         × (q.state.cost + 250 * a.z.state.units ≤ y1.cost + 150 + 250 * (arity which + z3.units))
 
     made_ends :
-        {credit : ℕ} (size : ℕ) (o : Object) (s : Spot) (z3 : meaning.State) → OneMore size o a.z.state z3 → IsNoFunction o → a.z.state.units ≤ z3.units
-        → z3.printed ≡ a.z.state.printed → has_room setting.limit (a.z.state.heap + a.z.state.stack + size + 0) ≡ true
+        {credit : ℕ} (size : ℕ) (o : Object) (s : Spot) (z3 : meaning.State) → OneMore size o a.z.state z3 → IsNoFunction o
+        → ((to : ℕ) → to ≡ a.y.arena.heap_to + 4 * size → FreshCounted z3.store z3.symbols to) → a.z.state.units ≤ z3.units → z3.printed ≡ a.z.state.printed → has_room setting.limit (a.z.state.heap + a.z.state.stack + size + 0) ≡ true
         → Made size s z3 ⊎ (a.turns ≤ z3.units - a.z.state.units) → 210 + 256 * arity which ≤ credit
         → Does credit (gives (object (length a.z.state.store)) (record a.z { state = z3 }))
-    made_ends size o s z3 one other up same fits (inr few) enough =
+    made_ends size o s z3 one other fresh up same fits (inr few) enough =
         few_ends setting a (z3.units - a.z.state.units) (gives (object (length a.z.state.store)) (record a.z { state = z3 })) _ few (omega (arith, up))
-    made_ends {credit} size o s z3 one other up same fits (inl came) enough = by came.0
+    made_ends {credit} size o s z3 one other fresh up same fits (inl came) enough = by came.0
       where
         by : Returned setting.names (tables setting.program) a.w.places a.z.state y1 (with_object s a.w.places) (object (length a.z.state.store)) z3 size q
             ⊎ RoomWanting setting.names (tables setting.program) a.w.places a.z.state y1 there.procedure.frame size q
@@ -229,7 +230,7 @@ module _ (setting : Setting) (placed : IsPlaced setting) (k : ℕ) (a : Start se
             value_ends setting placed k a two number arguments signalling q is {word = x.word} {places = with_object s a.w.places} {z2 = z3} {c1 = 190 + 256 * arity which}
             (record {
               end = x.end;
-              stands = object_stands setting t size o s z3 q.state one other fits x.represents x.kept x.arena.size x.blocks;
+              stands = object_stands setting t size o s z3 q.state one other fits x.represents x.kept x.arena.size x.blocks (fresh q.state.arena.heap_to x.arena.heap_to);
               charged =
                   charged_by (left a.y.arena) (left q.state.arena) a.z.state.heap z3.heap a.z.state.stack z3.stack size
                   (left_behind a.y.arena q.state.arena size x.represents.arena x.arena.size x.blocks x.arena.heap_to) one.heap one.stack;
@@ -243,7 +244,7 @@ module _ (setting : Setting) (placed : IsPlaced setting) (k : ℕ) (a : Start se
 
     -- an object of so many words, and units beside them
     makes_ends :
-        {credit : ℕ} (size besides : ℕ) (o : Object) (z2 : meaning.State) → z2 ≡ a.z.state → IsNoFunction o → Outcomes (makes size besides o z2)
+        {credit : ℕ} (size besides : ℕ) (o : Object) (z2 : meaning.State) → z2 ≡ a.z.state → IsNoFunction o × IsNotFresh o → Outcomes (makes size besides o z2)
         → 210 + 256 * arity which ≤ credit → Does credit (answered (context_at setting k) (makes size besides o z2) a.around a.z)
     makes_ends {credit} size besides o z2 same other outcome enough =
         subst (λ x. Outcomes (makes size besides o x) → Does credit (answered (context_at setting k) (makes size besides o x) a.around a.z)) (sym same)
@@ -280,7 +281,8 @@ module _ (setting : Setting) (placed : IsPlaced setting) (k : ℕ) (a : Start se
         by outcome true e =
             subst (Does credit) (sym (request_granted setting.limit size a.z following e))
             (made_ends size o (record { address = y1.arena.heap_to; words = size; tag = tag_of o }) after
-            (record { store = refl; variables = refl; globals = refl; dynamics = refl; exits = refl; heap = refl; stack = refl }) other (omega arith) refl e (made outcome) enough)
+            (record { store = refl; variables = refl; globals = refl; dynamics = refl; exits = refl; heap = refl; stack = refl }) other.0
+            (λ to at. fresh_from (fresh_was a.z.state.store o other.1) refl (omega (arith, at)) t.fresh_symbols) (omega arith) refl e (made outcome) enough)
         by outcome false e =
             subst (Does credit) (sym (request_refused setting.limit size a.z following e))
             (full_ends setting k a (code_of (by_procedure setting.at which (length ws) a.d a.s.code.site)) (size + 0) (room_left setting.limit (a.z.state.heap + a.z.state.stack))
@@ -332,7 +334,8 @@ module _ (setting : Setting) (placed : IsPlaced setting) (k : ℕ) (a : Start se
         by outcome true e =
             subst (Does credit) (sym (request_granted setting.limit 2 a.z following e))
             (made_ends 2 o (record { address = y1.arena.heap_to; words = 2; tag = object_tag }) after
-            (record { store = refl; variables = refl; globals = refl; dynamics = refl; exits = refl; heap = refl; stack = refl }) tt (omega arith) refl e (made outcome) enough)
+            (record { store = refl; variables = refl; globals = refl; dynamics = refl; exits = refl; heap = refl; stack = refl }) tt
+            (λ to at. fresh_made (omega (arith, at)) t.fresh_symbols) (omega arith) refl e (made outcome) enough)
         by outcome false e =
             subst (Does credit) (sym (request_refused setting.limit 2 a.z following e))
             (full_ends setting k a (code_of (by_procedure setting.at which (length ws) a.d a.s.code.site)) (2 + 0) (room_left setting.limit (a.z.state.heap + a.z.state.stack))
@@ -399,7 +402,8 @@ module _ (setting : Setting) (placed : IsPlaced setting) (k : ℕ) (a : Start se
                     object_stands setting t size condition (record { address = y1.arena.heap_to; words = size; tag = object_tag }) behind q.state
                     (record { store = refl; variables = refl; globals = refl; dynamics = refl; exits = refl; heap = refl; stack = refl }) tt fits
                     (represents_same setting.names (tables setting.program) _ (meaning.stored condition (meaning.charged charged a.z.state)) behind q.state refl refl refl refl x.represents)
-                    x.kept x.arena.size x.blocks;
+                    x.kept x.arena.size x.blocks
+                    (fresh_from (fresh_was a.z.state.store condition tt) refl (let to = x.arena.heap_to in omega (arith, to)) t.fresh_symbols);
                 charged =
                     charged_by (left a.y.arena) (left q.state.arena) a.z.state.heap behind.heap a.z.state.stack behind.stack size
                     (left_behind a.y.arena q.state.arena size x.represents.arena x.arena.size x.blocks x.arena.heap_to) refl refl;

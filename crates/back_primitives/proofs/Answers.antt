@@ -1,4 +1,5 @@
--- What the answers of primitives make and signal: no function is made, and conditions are of classes that are built in.
+-- What the answers of primitives make and signal: no function is made, nor a fresh symbol but the next one, and conditions are of classes that
+-- are built in.
 use Rattle.std.proofs.Common.{◌≡◌, ℕ, Bool, true, false, List, [], ◌∷◌, refl, Option, Some, None, length}
 use Rattle.std.specs.List.{position_or_len}
 use Rattle.std.specs.Prelude.{ℤ, pos, ◌+ℤ◌, ◌-ℤ◌, ◌*ℤ◌, slice_get, if◌then◌else◌}
@@ -12,6 +13,7 @@ use Rattle.lang_meaning.specs.State.{State}
 use Rattle.lang_meaning.specs.Classes.{fetch, slots, is_condition}
 use Rattle.lang_meaning.specs.Primitives.{Answer, result, makes, makes_symbol, fails, domain_error, needs, as_integer, as_character, as_cons, as_string, as_vector, as_class, as_instance, as_stream, as_symbol, integer_result, floor_quotient, floor_remainder, division, index_of, length_of, byte_of, can_be_made, is_slot, slot_place, slot_value, a_slot, of_none, of_one, of_two, of_three, of_integers, primitive}
 use Rattle.mid_arena.proofs.Conditions.{PlainCondition, program_error, division_by_zero, integer_overflow}
+use Rattle.back_relation.proofs.Fresh.{IsNotFresh}
 
 -- an object that is no function
 abbrev pub IsNoFunction : Object → Type 0
@@ -21,7 +23,7 @@ IsNoFunction o = Unit {0}
 
 abbrev pub IsProper : Answer → Type 0
 IsProper (result v z) = Unit {0}
-IsProper (makes size besides o z) = IsNoFunction o
+IsProper (makes size besides o z) = IsNoFunction o × IsNotFresh o
 IsProper (makes_symbol z) = Unit {0}
 IsProper (fails class vs z) = PlainCondition class × (vs ≡ [])
 IsProper (domain_error v expected z) = Unit {0}
@@ -117,14 +119,14 @@ row names program IsString = one_proper (λ v z. told)
 row names program IsVector = one_proper (λ v z. told)
 row names program IsFunction = one_proper (λ v z. told)
 row names program IsGeneric = one_proper (λ v z. told)
-row names program Cons = two_proper (λ v w z. record { by = tt })
+row names program Cons = two_proper (λ v w z. record { by = (tt, tt) })
 row names program Car = one_proper (λ v z. needed (as_cons (fetch z v)) wrong (λ c. told))
 row names program Cdr = one_proper (λ v z. needed (as_cons (fetch z v)) wrong (λ c. told))
 row names program SetCar = two_proper (λ v w z. needed (as_cons (fetch z w)) wrong (λ c. told))
 row names program SetCdr = two_proper (λ v w z. needed (as_cons (fetch z w)) wrong (λ c. told))
 row names program MakeString = two_proper (λ v w z.
-    needed (as_integer v) wrong (λ n. needed (as_character w) wrong (λ c. needed (length_of n) wrong (λ count. record { by = tt }))))
-row names program MakeVector = two_proper (λ v w z. needed (as_integer v) wrong (λ n. needed (length_of n) wrong (λ count. record { by = tt })))
+    needed (as_integer v) wrong (λ n. needed (as_character w) wrong (λ c. needed (length_of n) wrong (λ count. record { by = (tt, tt) }))))
+row names program MakeVector = two_proper (λ v w z. needed (as_integer v) wrong (λ n. needed (length_of n) wrong (λ count. record { by = (tt, tt) })))
 row names program StringLength = one_proper (λ v z. needed (as_string (fetch z v)) wrong (λ bytes. told))
 row names program VectorLength = one_proper (λ v z. needed (as_vector (fetch z v)) wrong (λ vs. told))
 row names program CharAt = two_proper (λ v w z.
@@ -138,7 +140,7 @@ row names program SetVectorRef = three_proper (λ v w u z.
     needed (as_vector (fetch z w)) wrong (λ us. needed (as_integer u) wrong (λ n. needed (index_of n (length us)) failing (λ i. told))))
 row names program CharCode = one_proper (λ v z. needed (as_character v) wrong (λ c. told))
 row names program CodeChar = one_proper (λ v z. needed (as_integer v) wrong (λ n. needed (byte_of n) wrong (λ c. told)))
-row names program SymbolName = one_proper (λ v z. needed (as_symbol z v) wrong (λ s. record { by = tt }))
+row names program SymbolName = one_proper (λ v z. needed (as_symbol z v) wrong (λ s. record { by = (tt, tt) }))
 row names program SymbolSerial = one_proper (λ v z. needed (as_symbol z v) wrong (λ s. told))
 row names program Gensym = none_proper (λ z. record { by = tt })
 row names program ClassOf = one_proper (λ v z. told)
@@ -146,7 +148,7 @@ row names program ClassName = one_proper (λ v z. needed (as_class (fetch z v)) 
 row names program IsSubclass = two_proper (λ v w z. needed (as_class (fetch z v)) wrong (λ c. needed (as_class (fetch z w)) wrong (λ d. told)))
 row names program IsInstance = two_proper (λ v w z. needed (as_class (fetch z w)) wrong (λ d. told))
 row names program Allocate = one_proper (λ v z.
-    needed (as_class (fetch z v)) wrong (λ c. either (can_be_made program c) (record { by = tt }) failing))
+    needed (as_class (fetch z v)) wrong (λ c. either (can_be_made program c) (record { by = (tt, tt) }) failing))
 row names program SlotCount = one_proper (λ v z. needed (as_instance (fetch z v)) wrong (λ i. told))
 row names program SlotPlace = two_proper (λ v w z.
     needed (as_instance (fetch z v)) wrong (λ i. needed (as_symbol z w) wrong (λ s. place_proper (slots program i.0) (is_slot names s) z)))

@@ -1,10 +1,10 @@
 -- What stands where a primitive gave a value, and where an object was made.
-use Rattle.std.proofs.Common.{◌≡◌, ℕ, suc, ◌+◌, ◌<◌, ◌≤◌, true, false, List, [], ◌∷◌, ◌++◌, length, Option, Some, None, sym, ap, ◌∙◌, subst, ⊎_elim, arith}
+use Rattle.std.proofs.Common.{◌≡◌, ℕ, suc, ◌+◌, ◌<◌, ◌≤◌, true, false, List, [], ◌∷◌, ◌++◌, length, Option, Some, None, refl, sym, ap, ◌∙◌, subst, ⊎_elim, arith}
 use Rattle.std.specs.Prelude.{slice_get, if◌then◌else◌}
 use Rattle.std.proofs.lemmas.Bool.Decides.{nat_tests}
 use Rattle.std.proofs.lemmas.Option.{slice_get_within}
 use Rattle.base.specs.Names.{slice_get-front, slice_get-push}
-use Rattle.lang_meaning.specs.Objects.{Object, function, generic_function}
+use Rattle.lang_meaning.specs.Objects.{Object, function, generic_function, fresh_symbol}
 use Rattle.lang_meaning.specs.Values.{Value}
 use Rattle.lang_meaning.specs.State.{Limit, words, unlimited, Outcome, full, has_room, room_left}
 use Rattle.lang_meaning.specs.State as meaning
@@ -20,7 +20,8 @@ use Rattle.mid_arena.specs.Represents.{Represents}
 use Rattle.mid_arena.proofs.Keeping.{old_spot, spot_in_tells}
 use Rattle.back_relation.specs.Setting.{Setting, control_spot}
 use Rattle.back_relation.specs.Worlds.{World}
-use Rattle.back_relation.specs.Things.{Things, WithinLimit}
+use Rattle.back_relation.specs.Things.{FreshCounted, Things, WithinLimit}
+use Rattle.back_relation.proofs.Fresh.{fresh_from}
 use Rattle.back_relation.proofs.Standing.{KeepsMost, StandsBehind}
 use Rattle.back_primitives.proofs.Answers.{IsNoFunction}
 
@@ -35,6 +36,11 @@ pub blank_generic : (o : Option Object) (g : ℕ) → blank o ≡ Some (generic_
 blank_generic (Some (generic_function h)) g e = e
 blank_generic (Some o) g e = absurd (cc e)
 blank_generic None g e = absurd (cc e)
+
+pub blank_fresh : (o : Option Object) (serial : ℕ) → blank o ≡ Some (fresh_symbol serial) → o ≡ Some (fresh_symbol serial)
+blank_fresh (Some (fresh_symbol n)) serial e = e
+blank_fresh (Some o) serial e = absurd (cc e)
+blank_fresh None serial e = absurd (cc e)
 
 -- an object among those with one more, which is no function, was there
 function_was :
@@ -70,8 +76,9 @@ most_kept setting t b k = record {
 pub value_stands :
     (setting : Setting) {w : World} {z : FlatState} {y : MidState} (t : Things setting w z y) (set : Value) (z2 : meaning.State) (y2 : MidState)
     → PrimitiveKeeps set z.state z2 → Represents setting.names (tables setting.program) w.places z2 y2 → KeepsWords w.places z.state y.arena y2.arena
-    → length y2.arena.memory ≡ length y.arena.memory → y2.arena.blocks ≡ y.arena.blocks → StandsBehind setting w z y w.places z2 y2
-value_stands setting {w} {z} {y} t set z2 y2 keeps represents kept size blocks = record {
+    → length y2.arena.memory ≡ length y.arena.memory → y2.arena.blocks ≡ y.arena.blocks → y.arena.heap_to ≤ y2.arena.heap_to
+    → StandsBehind setting w z y w.places z2 y2
+value_stands setting {w} {z} {y} t set z2 y2 keeps represents kept size blocks grows = record {
   represents = represents;
   spots = λ p s e. e;
   kept = most_kept setting t y2.arena kept;
@@ -80,6 +87,10 @@ value_stands setting {w} {z} {y} t set z2 y2 keeps represents kept size blocks =
   globals = keeps.globals;
   dynamics = keeps.dynamics;
   exits = keeps.exits;
+  laid_symbols = refl;
+  fresh_symbols =
+      fresh_from (λ i serial e. blank_fresh (slice_get z.state.store i) serial (sym (keeps.objects i) ∙ ap blank e)) keeps.symbols grows
+      t.fresh_symbols;
   functions = λ i p s e f. (blank_function (slice_get z.state.store i) p (sym (keeps.objects i) ∙ ap blank e), f);
   still = λ i p e. blank_function (slice_get z2.store i) p (keeps.objects i ∙ ap blank e);
   generics = λ i g e. blank_generic (slice_get z.state.store i) g (sym (keeps.objects i) ∙ ap blank e);
@@ -108,8 +119,8 @@ pub object_stands :
     → OneMore size o z.state z3 → IsNoFunction o → has_room setting.limit (z.state.heap + z.state.stack + size + 0) ≡ true
     → Represents setting.names (tables setting.program) (with_object s w.places) z3 y2
     → KeepsWords w.places z.state y.arena y2.arena → length y2.arena.memory ≡ length y.arena.memory → y2.arena.blocks ≡ y.arena.blocks
-    → StandsBehind setting w z y (with_object s w.places) z3 y2
-object_stands setting {w} {z} {y} t size o s z3 y2 one other room represents kept same_size blocks = record {
+    → FreshCounted z3.store z3.symbols y2.arena.heap_to → StandsBehind setting w z y (with_object s w.places) z3 y2
+object_stands setting {w} {z} {y} t size o s z3 y2 one other room represents kept same_size blocks fresh = record {
   represents = represents;
   spots = λ p r e. old_spot s w.places p r e;
   kept = most_kept setting t y2.arena kept;
@@ -118,6 +129,8 @@ object_stands setting {w} {z} {y} t size o s z3 y2 one other room represents kep
   globals = one.globals;
   dynamics = one.dynamics;
   exits = one.exits;
+  laid_symbols = refl;
+  fresh_symbols = fresh;
   functions = λ i p r e f.
       let old = function_was z.state.store o i p other (ap (λ os. slice_get os i) (sym one.store) ∙ e) in
       let low : i < length z.state.store = slice_get_within z.state.store i (function p) old in

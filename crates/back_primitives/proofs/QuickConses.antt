@@ -33,6 +33,7 @@ use Rattle.back_relation.specs.Room.{words_for_handler}
 use Rattle.back_relation.specs.Ends.{done, stopped}
 use Rattle.back_relation.specs.Forms.{code_at}
 use Rattle.back_relation.specs.Starts.{Start, EndsAt}
+use Rattle.back_relation.proofs.Fresh.{fresh_was, fresh_from}
 use Rattle.back_relation.proofs.Growth.{same_prefix}
 use Rattle.back_relation.proofs.Standing.{StandsBehind, world_behind, reached_behind}
 use Rattle.back_primitives.specs.Applying.{Applies}
@@ -166,7 +167,8 @@ module _ (setting : Setting) (k : ℕ) (a : Start setting) (v1 v2 : Value) (w1 w
         object_stands setting a.begins.call.things 2 (cons v1 v2) spot after y2
         (record { store = refl; variables = refl; globals = refl; dynamics = refl; exits = refl; heap = refl; stack = refl }) tt fits
         (represents_same setting.names (tables setting.program) (with_object spot a.w.places) (meaning.stored (cons v1 v2) a.z.state) after y2 refl refl refl refl x.represents)
-        x.kept x.arena.size x.blocks in
+        x.kept x.arena.size x.blocks
+        (fresh_from (fresh_was a.z.state.store (cons v1 v2) tt) refl (let to = x.arena.heap_to in omega (arith, to)) a.begins.call.things.fresh_symbols) in
         subst (λ o. EndsAt setting credit a the_meaning o) (sym runs.same)
         (done (record {
           result = object (length a.z.state.store);

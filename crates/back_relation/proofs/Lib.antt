@@ -7,6 +7,7 @@ pub mod Combined
 pub mod Cuts
 pub mod Fitting
 pub mod FormGrowth
+pub mod Fresh
 pub mod Growth
 pub mod Judging
 pub mod Leaves

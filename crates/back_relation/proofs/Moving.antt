@@ -24,6 +24,7 @@ use Rattle.back_relation.specs.StackWords.{HasWordAt}
 use Rattle.back_relation.specs.Worlds.{World, BoxPlace, on_heap, on_stack, gone, Later, BoxesApart}
 use Rattle.back_relation.specs.Things.{Things, TakenSpot, WithinLimit, CapturedIs, CapturedAt, BoxStands, MethodStands, FunctionStands, LiteralIs}
 use Rattle.back_relation.proofs.Activations.{made_by_later}
+use Rattle.back_relation.proofs.Fresh.{fresh_from}
 
 late_number : (ws : List ℕ) (n : ℕ) → spots_at_start ws ≤ n → 2 ≤ n
 late_number [] n h = h
@@ -35,9 +36,11 @@ BoxWas w before after i (on_heap x) = slice_get w.boxes i ≡ Some (on_heap x)
 BoxWas w before after i (on_stack x) = (slice_get w.boxes i ≡ Some (on_stack x)) × (word_at after x ≡ word_at before x)
 BoxWas w before after i gone = Unit {0}
 
--- the words of objects, of variables and of spots behind the control words are as they were; where boxes are, and which forms made exits
+-- The words of objects, of variables and of spots behind the control words are as they were, and the heap is no smaller; where boxes are, and
+-- which forms made exits.
 pub record Goes (setting : Setting) (w : World) (boxes : List BoxPlace) (forms : List (Option ExitForm)) (exits : ℕ) (z : FlatState) (y y' : MidState) : Type 0 where
   pub represents : Represents setting.names (tables setting.program) w.places z.state y'
+  pub heap : y.arena.heap_to ≤ y'.arena.heap_to
   pub objects : (i : ℕ) (s : Spot) → spot_of w.places (of_object i) ≡ Some s → SameWords y.arena y'.arena s
   pub others : (n : ℕ) (s : Spot) → 2 ≤ n → spot_of w.places (of_other n) ≡ Some s → SameWords y.arena y'.arena s
   pub globals : (n : ℕ) → HasGlobal setting n → word_at y'.arena (global_address setting.at n) ≡ word_at y.arena (global_address setting.at n)
@@ -165,6 +168,8 @@ module _ (setting : Setting) {w : World} {z : FlatState} {y y' : MidState} {boxe
     dynamics = λ n has. slot_same _ _ (g.dynamics n has) (t.dynamics n has);
     literals = λ i l e. literal_is i l _ (t.literals i l e);
     symbols = t.symbols;
+    laid_symbols = t.laid_symbols;
+    fresh_symbols = fresh_from (λ i serial e. e) refl g.heap t.fresh_symbols;
     box_count = g.count ∙ t.box_count;
     boxes_apart = apart;
     boxes = λ i b e. box_stands i b (g.were i b e);

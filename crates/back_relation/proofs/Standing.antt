@@ -22,7 +22,7 @@ use Rattle.back_lowering.specs.Placement.{literal_word, symbol_word, global_addr
 use Rattle.back_relation.specs.Setting.{Setting, spots_at_start}
 use Rattle.back_relation.specs.Placed.{IsVariableWord, IsPlaced}
 use Rattle.back_relation.specs.Worlds.{World, BoxPlace, on_heap, on_stack, gone, Later}
-use Rattle.back_relation.specs.Things.{Things, TakenSpot, WithinLimit, CapturedIs, CapturedAt, BoxStands, MethodStands, FunctionStands, LiteralIs}
+use Rattle.back_relation.specs.Things.{Things, FreshCounted, TakenSpot, WithinLimit, CapturedIs, CapturedAt, BoxStands, MethodStands, FunctionStands, LiteralIs}
 use Rattle.back_relation.specs.Activation.{RegistersKept}
 use Rattle.back_relation.specs.Ends.{ControlBack, ChargedFrom, PaidFrom, WorldKept}
 use Rattle.back_relation.specs.Cuts.{world_cut}
@@ -53,6 +53,8 @@ pub record StandsBehind (setting : Setting) (w : World) (z : FlatState) (y : Mid
   pub globals : z2.globals ≡ z.state.globals
   pub dynamics : z2.dynamics ≡ z.state.dynamics
   pub exits : z2.exits ≡ z.state.exits
+  pub laid_symbols : places.symbols ≡ w.places.symbols
+  pub fresh_symbols : FreshCounted z2.store z2.symbols y2.arena.heap_to
   pub functions :
       (i p : ℕ) (s : Spot) → slice_get z2.store i ≡ Some (function p) → spot_of places (of_object i) ≡ Some s
       → (slice_get z.state.store i ≡ Some (function p)) × (spot_of w.places (of_object i) ≡ Some s)
@@ -208,6 +210,8 @@ module _ (setting : Setting) (placed : IsPlaced setting) {w : World} {z : FlatSt
         (b.kept.control (dynamic_address setting.at n) (omega (arith, has)) at.below (λ e. omega (arith, has, e))) (t.dynamics n has));
     literals = λ i l e. literal_behind i l (literal_word setting.at i) (t.literals i l e);
     symbols = λ n has. word_later later_behind (symbol (named (text setting.names n))) (symbol_word setting.at n) (t.symbols n has);
+    laid_symbols = b.laid_symbols ∙ t.laid_symbols;
+    fresh_symbols = b.fresh_symbols;
     box_count = cut_count from w.boxes ∙ t.box_count ∙ ap length (sym b.variables);
     boxes_apart = record {
       heap = λ i j a e f. t.boxes_apart.heap i j a (heap_was from i a w.boxes e) (heap_was from j a w.boxes f);

@@ -1,6 +1,7 @@
 -- What is fixed while a lowered program runs.
 use Rattle.std.specs.Prelude.{◌≡◌, ⊤, ℕ, ◌+◌, ◌*◌, ◌≤◌, List, [], ◌∷◌, Some, slice_get}
 use Rattle.lang_meaning.specs.State.{Limit}
+use Rattle.lang_meaning.specs.Values.{SymbolValue}
 use Rattle.flat_language.specs.declared.program.FlatProgram.{FlatProgram}
 use Rattle.flat_language.specs.FlatExits.{ProgramLeads}
 use Rattle.mid_code.specs.declared.program.MidProcedure.{MidProcedure}
@@ -21,8 +22,8 @@ FramesWithin (g ∷ gs) [] = ⊥
 FramesWithin (g ∷ gs) (p ∷ ps) = WithinFrame g p × FramesWithin gs ps
 
 -- the texts of names; the program, and the forms to which its exits lead; the words that there are for its meaning; where words are laid; how many words of variables stand behind
--- the control words; the words that stand behind all objects, and from where on; the procedures, with the frames that are used; and how many
--- turns there are at each level
+-- the control words; the words that stand behind all objects, and from where on; the symbols that are laid before the run, with their spots;
+-- the procedures, with the frames that are used; and how many turns there are at each level
 pub record Setting : Type 0 where
   pub names : List (List ℕ)
   pub program : FlatProgram
@@ -32,6 +33,7 @@ pub record Setting : Type 0 where
   pub variable_words : ℕ
   pub further : List ℕ
   pub further_at : ℕ
+  pub symbols : List (SymbolValue × Spot)
   pub procedures : List MidProcedure
   pub frames : FramesWithin (lowered names at program) procedures
   pub turns_each : ℕ

@@ -10,7 +10,7 @@ use Rattle.lang_meaning.specs.InitialHeap.{class_value, function_value, literal_
 use Rattle.lang_meaning.specs.Literals.{function_row}
 use Rattle.lang_meaning.specs.Lookup.{text, under_text, value_at}
 use Rattle.lang_meaning.specs.Meaning.{place_of_site}
-use Rattle.lang_meaning.specs.Objects.{Called, function, generic_function}
+use Rattle.lang_meaning.specs.Objects.{Object, Called, function, generic_function, fresh_symbol}
 use Rattle.lang_meaning.specs.State.{State, Limit, words, unlimited, no_place}
 use Rattle.lang_meaning.specs.Values.{symbol, named}
 use Rattle.flat_language.specs.declared.place.CapturedKind.{CapturedKind}
@@ -35,6 +35,11 @@ use Rattle.back_relation.specs.StackWords.{HasWordAt}
 abbrev pub WithinLimit : Limit → State → Type 0
 WithinLimit unlimited z = ⊤
 WithinLimit (words m) z = z.heap + z.stack ≤ m
+
+-- Fresh symbols: the serial of each that is stored is below the number of those that were made, and each of these took two words of the heap.
+pub record FreshCounted (store : List Object) (made heap_to : ℕ) : Type 0 where
+  pub below : (i serial : ℕ) → slice_get store i ≡ Some (fresh_symbol serial) → serial < made
+  pub taken : 8 * made ≤ heap_to
 
 -- what was captured is of a kind
 abbrev pub IsOfKind : CapturedKind → Captured → Type 0
@@ -149,6 +154,9 @@ module _ (setting : Setting) where
     -- the words of literals and symbols
     pub literals : (i : ℕ) (l : LiteralRow) → slice_get setting.program.literals i ≡ Some l → LiteralIs w i l (literal_word setting.at i)
     pub symbols : (n : ℕ) → HasSymbol setting n → word_of w.places (symbol (named (text setting.names n))) ≡ Some (symbol_word setting.at n)
+    -- the symbols that have words are those that were laid before the run; those that the run makes are objects
+    pub laid_symbols : w.places.symbols ≡ setting.symbols
+    pub fresh_symbols : FreshCounted z.state.store z.state.symbols y.arena.heap_to
     -- boxes, and calls of methods
     pub box_count : length w.boxes ≡ length z.state.variables
     pub boxes_apart : BoxesApart w

@@ -49,6 +49,8 @@ module _ (setting : Setting) {w : World} {z : FlatState} {y : MidState} (t : Thi
         dynamics = t.dynamics;
         literals = literals_move setting y t l All (λ p s stays f x low high. refl);
         symbols = t.symbols;
+        laid_symbols = t.laid_symbols;
+        fresh_symbols = t.fresh_symbols;
         box_count = cut_count (stack_from y.arena) w.boxes ∙ t.box_count;
         boxes_apart = record {
           heap = λ i j a e f. t.boxes_apart.heap i j a (heap_was (stack_from y.arena) i a w.boxes e) (heap_was (stack_from y.arena) j a w.boxes f);

@@ -28,6 +28,8 @@ module _ (setting : Setting) where
     dynamics = t.dynamics;
     literals = t.literals;
     symbols = t.symbols;
+    laid_symbols = t.laid_symbols;
+    fresh_symbols = t.fresh_symbols;
     box_count = t.box_count;
     boxes_apart = t.boxes_apart;
     boxes = t.boxes;

@@ -25,6 +25,7 @@ use Rattle.back_relation.specs.Placed.{IsPlaced}
 use Rattle.back_relation.specs.Worlds.{World, BoxPlace, on_heap, on_stack, gone, Later, BoxesApart}
 use Rattle.back_relation.specs.Things.{Things, WithinLimit, BoxStands}
 use Rattle.back_relation.specs.Ends.{WorldKept, Around}
+use Rattle.back_relation.proofs.Fresh.{fresh_from}
 use Rattle.back_relation.proofs.Worlds.{word_later}
 use Rattle.back_values.specs.Boxes.{Clean, extended}
 use Rattle.back_values.proofs.Moved.{KeepsBox, box_moves, method_moves, functions_move, literals_move, symbols_move, further_moves, control_moves, word_moves, serials_move, globals_move, dynamics_move}
@@ -166,6 +167,8 @@ module _ (setting : Setting) (placed : IsPlaced setting) {w : World} {y : MidSta
     dynamics = λ n has. dynamics_move setting box_state t later All same tt placed n has;
     literals = literals_move setting box_state t later All same;
     symbols = symbols_move setting box_state t later All same;
+    laid_symbols = t.laid_symbols;
+    fresh_symbols = fresh_from (λ i serial e. e) refl grows.heap.heap_to t.fresh_symbols;
     box_count = length-append w.boxes (on_heap y.arena.heap_to ∷ []) ∙ ap (λ n. n + 1) t.box_count ∙ sym (length-append vs (v ∷ []));
     boxes_apart = apart;
     boxes = box_stands;

@@ -34,6 +34,7 @@ use Rattle.back_relation.specs.Worlds.{World, BoxPlace, on_heap, on_stack, gone,
 use Rattle.back_relation.specs.Things.{Things, WithinLimit, AreOfKinds, AreMadeBy, CapturedIs, CapturedAt, FunctionStands, MadeFunction}
 use Rattle.back_relation.specs.Ends.{WorldKept, Around}
 use Rattle.back_relation.proofs.Activations.{made_by_later}
+use Rattle.back_relation.proofs.Fresh.{fresh_was, fresh_from}
 use Rattle.back_values.specs.Boxes.{Clean}
 use Rattle.back_values.proofs.Moved.{KeepsBox, box_moves, method_moves, functions_move, captured_moves, literals_move, symbols_move, further_moves, control_moves, word_moves, serials_move, globals_move, dynamics_move}
 
@@ -208,6 +209,8 @@ module _ (setting : Setting) (placed : IsPlaced setting) {w : World} {z : FlatSt
     dynamics = λ n has. dynamics_move setting made_state t later All same tt placed n has;
     literals = literals_move setting made_state t later All same;
     symbols = symbols_move setting made_state t later All same;
+    laid_symbols = t.laid_symbols;
+    fresh_symbols = fresh_from (fresh_was store (function p) tt) refl grows.heap.heap_to t.fresh_symbols;
     box_count = t.box_count;
     boxes_apart = record { heap = t.boxes_apart.heap; stack = t.boxes_apart.stack };
     boxes = λ i b e. box_moves setting made_state t later All same i b (function_meant p cs z).state refl (keeps i b e) (t.boxes i b e);

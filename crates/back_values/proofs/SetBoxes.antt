@@ -162,6 +162,8 @@ module _ (setting : Setting) (placed : IsPlaced setting) {w : World} {z : FlatSt
     dynamics = λ n has. dynamics_move setting set_state t (later_same w) Stays same control_stays placed n has;
     literals = t.literals;
     symbols = t.symbols;
+    laid_symbols = t.laid_symbols;
+    fresh_symbols = t.fresh_symbols;
     box_count = t.box_count ∙ sym (length-set z.state.variables i v);
     boxes_apart = t.boxes_apart;
     boxes = box_stands;

@@ -153,6 +153,8 @@ module _ (setting : Setting) {w : World} {z : FlatState} {y : MidState} (t : Thi
       dynamics = dynamics_stand;
       literals = t.literals;
       symbols = t.symbols;
+      laid_symbols = t.laid_symbols;
+      fresh_symbols = t.fresh_symbols;
       box_count = t.box_count;
       boxes_apart = t.boxes_apart;
       boxes = λ j b e. box_moves setting stored t (later_same w) Stays same j b meant.state refl (keeps j b e) (t.boxes j b e);

@@ -1,4 +1,4 @@
--- The functions that are there before the first form are those of the program.
+-- The functions that are there before the first form are those of the program; and no fresh symbol is there.
 use Rattle.std.proofs.Common.{◌≡◌, ℕ, zero, suc, ◌+◌, ◌-◌, ◌<◌, List, [], ◌∷◌, ◌++◌, length, map, Option, Some, None}
 use Rattle.std.specs.Prelude.{⊤, flat_map}
 use Rattle.std.specs.List.{range_with_len}
@@ -14,16 +14,17 @@ use Rattle.lang_meaning.specs.declared.program.SlotRow.{SlotRow}
 use Rattle.lang_meaning.specs.InitialHeap.{Key, input, output, Keyed, Thing, single, class_things, function_object, function_things, literal_things, literal_objects, literal, initargs_list, initform_objects, slot_things, keyed, laid_out, things, objects_at_start}
 use Rattle.lang_meaning.specs.Literals.{Laid, lay, lay_content, lay_items, lay_list, lay_tail}
 use Rattle.lang_meaning.specs.Lookup.{numbered}
-use Rattle.lang_meaning.specs.Objects.{Object, function, generic_function, input_stream, output_stream, built_in_classes}
+use Rattle.lang_meaning.specs.Objects.{Object, function, generic_function, fresh_symbol, input_stream, output_stream, built_in_classes}
 use Rattle.flat_language.specs.declared.program.FlatProgram.{FlatProgram}
 use Rattle.flat_language.specs.FlatNodes.{tables}
 use Rattle.back_words.specs.Asked.{CalleeFound, InitformFound, RowsAsked}
 
 module _ (program : FlatProgram) where
-  -- a function has the number of a procedure, and a generic function that of a row
+  -- a function has the number of a procedure, and a generic function that of a row; a fresh symbol is none of them
   abbrev pub ObjectFits : Object → Type 0
   ObjectFits (function p) = p < length program.procedures
   ObjectFits (generic_function g) = g < length program.generics
+  ObjectFits (fresh_symbol serial) = ⊥
   ObjectFits other = ⊤
 
   abbrev ObjectsFit : List Object → Type 0

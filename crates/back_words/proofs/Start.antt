@@ -18,7 +18,7 @@ use Rattle.lang_meaning.specs.declared.program.LiteralRow.TheVariants as row
 use Rattle.lang_meaning.specs.InitialHeap.{function_value, objects_at_start}
 use Rattle.lang_meaning.specs.Literals.{function_row}
 use Rattle.lang_meaning.specs.Lookup.{text}
-use Rattle.lang_meaning.specs.Objects.{function, generic_function}
+use Rattle.lang_meaning.specs.Objects.{function, generic_function, fresh_symbol}
 use Rattle.lang_meaning.specs.State.{Limit, words, unlimited, first_state}
 use Rattle.lang_meaning.specs.Values.{symbol, named}
 use Rattle.flat_language.specs.declared.program.FlatProcedure.{FlatProcedure}
@@ -240,6 +240,11 @@ module _
         item_there setting.program.generics g
         (all_at (ObjectFits setting.program) (objects_at_start setting.names (tables setting.program)) i (generic_function g) (start_fits setting.program rows setting.names) there)
 
+    none_fresh : (i serial : ℕ) → slice_get (objects_at_start setting.names (tables setting.program)) i ≡ Some (fresh_symbol serial) → serial < 0
+    none_fresh i serial there =
+        absurd
+        (all_at (ObjectFits setting.program) (objects_at_start setting.names (tables setting.program)) i (fresh_symbol serial) (start_fits setting.program rows setting.names) there)
+
     limited : (limit : Limit) → WithinLimit limit (first_state (objects_at_start setting.names (tables setting.program)) input)
     limited unlimited = tt
     limited (words m) = omega arith
@@ -257,6 +262,8 @@ module _
           subst (λ w. LiteralIs setting (world_at_start s.start.places) i l w) (sym (literal_is i l e))
           (laid_is i l e (all_at (LiteralFound setting.program) setting.program.literals i l rows.literals e));
       symbols = symbol_stands;
+      laid_symbols = sym s.symbols;
+      fresh_symbols = record { below = none_fresh; taken = omega arith };
       box_count = refl;
       boxes_apart = record { heap = λ i j a h k. absurd (cc h); stack = λ i j a h k. absurd (cc h) };
       boxes = λ i b e. absurd (cc e);

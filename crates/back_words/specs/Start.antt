@@ -49,6 +49,7 @@ pub record StartsWith (setting : Setting) (laid : StaticData) : Type 0 where
       (laid_symbols setting.names laid.arena.symbols)
   pub start : IsStaticData setting.names (tables setting.program) (low_words setting.names setting.program) setting.further laid
   pub at : setting.further_at ≡ start.further_at
+  pub symbols : setting.symbols ≡ start.places.symbols
 
 -- no variable has a box yet, no call is kept, and exit 0 is that of no form
 abbrev pub world_at_start : Places → World

@@ -93,6 +93,15 @@ impl SymbolWords {
         Ok(())
     }
 
+    /// The list of the symbols.
+    pub fn into_list(self) -> ItemList<SymbolWord>
+        ensures { result ≡ self }
+    {
+        let SymbolWords { list, places } = self;
+        drop(places);
+        list
+    }
+
     /// Its first `len` symbols stay; takes no memory.
     pub fn cut(&mut self, len: usize)
         requires { len ≤ length self.old }

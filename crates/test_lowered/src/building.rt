@@ -9,7 +9,7 @@ use test_rows::RowAnswer;
 /// The image of a program; none where there is none, which is told.
 pub fn image_of(got: &mut RowAnswer, whole: &Whole) -> Option<Image> {
     match build(got.alloc, &whole.program, &whole.names) {
-        Ok(image) => Some(image),
+        Ok(built) => Some(built.image),
         Err(BuildFault::NoMemory) => got.kept(Err(NoMemory)),
         Err(fault) => {
             got.put_debug(&fault);

@@ -11,6 +11,7 @@ use Rattle.mid_arena.specs.Tags.{nil_word, tag_of}
 use Rattle.mid_arena.proofs.Arguments.{integer_word_is, character_word_is, object_there, tag_told}
 use Rattle.mid_arena.proofs.Keeping.{tag_low, tag_some}
 use Rattle.rv_machine.specs.Run.{Ended}
+use Rattle.back_build.specs.declared.building.Built.{Built}
 use Rattle.back_build.specs.Means.{HasWord}
 use Rattle.top_main.specs.Images.{IsWordOf}
 
@@ -21,8 +22,8 @@ one_or_two (suc zero) some low = inl refl
 one_or_two (suc (suc zero)) some low = inr refl
 one_or_two (suc (suc (suc n))) some low = absurd (omega (arith, low))
 
-module _ (names : List (List ℕ)) (program : ProgramRows) (m : Meant) (x : Ended) where
-  pub word_is : (v : Value) (word : ℕ) → HasWord names program m x v word → IsWordOf word v
+module _ (names : List (List ℕ)) (program : ProgramRows) (built : Built) (m : Meant) (x : Ended) where
+  pub word_is : (v : Value) (word : ℕ) → HasWord names program built.symbols m x v word → IsWordOf word v
   word_is (integer n) word h = (integer_word_is h.places n word h.of_value).1
   word_is (character c) word h = (character_word_is h.places c word h.of_value).1
   word_is (symbol s) word h = tag_told names (tables (flat_program program)) h.places h.state h.arena h.represents (symbol s) word h.of_value

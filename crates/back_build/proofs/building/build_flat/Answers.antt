@@ -7,9 +7,10 @@ use Rattle.lang_meaning.specs.Facts.{is_whole}
 use Rattle.flat_language.specs.declared.program.FlatProgram.{FlatProgram}
 use Rattle.flat_language.specs.Flatten.{flat_program}
 use Rattle.back_lowered.specs.Lowered.{IsLoweredProgram}
+use Rattle.back_build.specs.declared.building.Built.{Built}
 use Rattle.back_build.specs.Means.{IsBuilt}
 use Rattle.back_build.specs.Reached.{IsSized}
-use Rattle.back_build.specs.Compiled.{IsImageMade}
+use Rattle.back_build.specs.Compiled.{IsMade}
 use Rattle.back_build.specs.Faults.{FailsLowered, FailsFlat}
 use Rattle.back_build.proofs.Tested.{built_of}
 use Rattle.back_build.proofs.Failing.{of_lowering, of_fault, some_procedures, boxes_captured, boxes_tested}
@@ -17,9 +18,9 @@ use Rattle.back_build.proofs.building.build_flat.Goals as goal
 
 pub returns-clause-image : goal.returns-clause-image
 returns-clause-image c =
-    IfOk-weaker c.image_of.result (λ image. IsImageMade c.in_ok-lowered.lowered image)
-    (λ image. (program : ProgramRows) → is_whole program ≡ true → c.args.flat.now ≡ flat_program program → IsBuilt c.args.names.now program image)
-    (λ image made. built_of c.law_built.ensures c.args.names.now c.args.flat.now c.in_ok-lowered.lowered image c.len-count.ensures.table
+    IfOk-weaker c.image_of.result (IsMade c.in_ok-lowered.lowered)
+    (λ (b : Built). (program : ProgramRows) → is_whole program ≡ true → c.args.flat.now ≡ flat_program program → IsBuilt c.args.names.now program b.symbols b.image)
+    (λ b made. built_of c.law_built.ensures c.args.names.now c.args.flat.now c.in_ok-lowered.lowered b c.len-count.ensures.table
     (c.in_ok-asked.ensures.0 c.if-not-asked.false)
     (boxes_captured c.args.flat.now c.in_ok-captured.captured c.in_ok-captured.ensures c.if-not-captured.false)
     c.in_ok-lowered.ensures.lowered made)
@@ -45,9 +46,9 @@ returns-clause-fault c =
 
 pub returns-clause-size : goal.returns-clause-size
 returns-clause-size c =
-    IfOk-weaker c.image_of.result (λ image. IsImageMade c.in_ok-lowered.lowered image)
-    (λ image. (program : ProgramRows) → is_whole program ≡ true → c.args.flat.now ≡ flat_program program → IsSized image program)
-    (λ image made program whole same.
-    c.law_built_size.ensures c.args.names.now program c.in_ok-lowered.lowered image whole
-    (subst (λ (f : FlatProgram). IsLoweredProgram c.args.names.now f c.in_ok-lowered.lowered) same c.in_ok-lowered.ensures.lowered) made)
+    IfOk-weaker c.image_of.result (IsMade c.in_ok-lowered.lowered)
+    (λ (b : Built). (program : ProgramRows) → is_whole program ≡ true → c.args.flat.now ≡ flat_program program → IsSized b.image program)
+    (λ b made program whole same.
+    c.law_built_size.ensures c.args.names.now program c.in_ok-lowered.lowered b.image whole
+    (subst (λ (f : FlatProgram). IsLoweredProgram c.args.names.now f c.in_ok-lowered.lowered) same c.in_ok-lowered.ensures.lowered) made.image)
     c.image_of.ensures.image
