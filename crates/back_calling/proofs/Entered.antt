@@ -333,7 +333,7 @@ framed p f = record p { frame = f }
 
 module _ (setting : Setting) (room inside credit m : ℕ) (p : MidProcedure) (ws : List ℕ) (rs valid : List Standing) (w : World) (around : DynamicContext) (z : FlatState) (y : MidState)
     (r : FlatEvaluated) (f : ℕ) (within : f ≤ p.frame) (many : length ws ≡ p.parameters) (enough : p.frame + inside ≤ room) (grown : IsPrefix z.state.printed r.state.state.printed)
-    (units : (r.outcome ≡ more → ⊥) → z.state.units ≤ r.state.state.units)
+    (units : (r.outcome ≡ more → ⊥) → z.state.units ≤ r.state.state.units + 1)
     (b : CallBegins setting rs valid room w around z y) where
   -- what was printed is a beginning of what the meaning prints
   printed_before : IsPrefix y.printed r.state.state.printed
@@ -446,7 +446,7 @@ module _ (setting : Setting) where
       (r : FlatEvaluated)
       → slice_get (lowered setting.names setting.at setting.program) number ≡ Some p → p.counted ≡ Turn → length ws ≡ p.parameters → p.frame + inside ≤ room
       → m + 16 * z.state.units ≤ turns + 50 + 16 * r.state.state.units → IsPrefix z.state.printed r.state.state.printed
-      → ((r.outcome ≡ more → ⊥) → z.state.units ≤ r.state.state.units) → CallBegins setting rs valid room w around z y
+      → ((r.outcome ≡ more → ⊥) → z.state.units ≤ r.state.state.units + 1) → CallBegins setting rs valid room w around z y
       → ((n : ℕ) → turns ≡ suc n → BodyComes setting (code_at setting k n) p credit m inside ws rs valid w around z y r)
       → CallEnds setting (credit + entry_cost p.parameters) m rs valid w around z y r (called (code_at setting k turns) number ws y)
   turns_entered k n number m room inside credit p ws rs valid w around z y r found counted many enough few grown units b body =
@@ -456,14 +456,14 @@ module _ (setting : Setting) where
 
   pub turns_law : LawOfTurns setting
   turns_law k n number m room inside credit p ws rs valid w around z y r found counted many enough few grown b body =
-      turns_entered k n number m room inside credit p ws rs valid w around z y r found counted many enough (omega (arith, few, grown.units)) grown.printed (λ ended. grown.units) b body
+      turns_entered k n number m room inside credit p ws rs valid w around z y r found counted many enough (omega (arith, few, grown.units)) grown.printed (λ ended. omega (arith, grown.units)) b body
 
   -- of the growth of the meaning only what is printed counts with a level
   pub levels_entered :
       (k turns number m room inside credit : ℕ) (p : MidProcedure) (ws : List ℕ) (rs valid : List Standing) (w : World) (around : DynamicContext) (z : FlatState) (y : MidState)
       (r : FlatEvaluated)
       → slice_get (lowered setting.names setting.at setting.program) number ≡ Some p → p.counted ≡ Level → length ws ≡ p.parameters → p.frame + inside ≤ room
-      → IsPrefix z.state.printed r.state.state.printed → ((r.outcome ≡ more → ⊥) → z.state.units ≤ r.state.state.units)
+      → IsPrefix z.state.printed r.state.state.printed → ((r.outcome ≡ more → ⊥) → z.state.units ≤ r.state.state.units + 1)
       → CallBegins setting rs valid room w around z y → (k ≡ zero → r.outcome ≡ more)
       → ((j : ℕ) → k ≡ suc j → BodyComes setting (code_at setting j setting.turns_each) p credit m inside ws rs valid w around z y r)
       → CallEnds setting (credit + entry_cost p.parameters) m rs valid w around z y r (called (code_at setting k turns) number ws y)
@@ -474,7 +474,7 @@ module _ (setting : Setting) where
 
   pub entered_levels_law : LawOfEnteredLevels setting
   entered_levels_law k n number m room inside credit p ws rs valid w around z y r found counted many enough grown b none body =
-      levels_entered k n number m room inside credit p ws rs valid w around z y r found counted many enough grown.printed (λ ended. grown.units) b none body
+      levels_entered k n number m room inside credit p ws rs valid w around z y r found counted many enough grown.printed (λ ended. omega (arith, grown.units)) b none body
 
   pub paid_turns_law : LawOfPaidTurns setting
   paid_turns_law k n number m credit p ws rs valid w around z y r found counted many few grown things stands wanting body =

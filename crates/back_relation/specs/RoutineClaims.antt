@@ -50,6 +50,10 @@ list_credit n = 100 + 20 * n
 abbrev pub argument_credit : ℕ → ℕ
 argument_credit n = 300 + 20 * n
 
+-- what is done at most, beside what its words pay, where there is no room for the call of a method that is to be kept
+abbrev pub no_words_cost : ℕ
+no_words_cost = 40
+
 abbrev pub chain_credit : ℕ
 chain_credit = 220
 
@@ -251,7 +255,7 @@ module _ (setting : Setting) where
     MethodDoes =
         (c : Called) (chain address : ℕ) → ChainAt setting chain c.rest → ChainTakes setting (length c.arguments) c.rest
         → ArgumentsGiven setting w y.arena address c.arguments → CallBegins setting rs valid routine_words w around z y
-        → Ends setting (argument_credit (length c.arguments))
+        → Ends setting no_words_cost
         (MethodKept c (argument_credit (length c.arguments)) (with_record setting.limit (Some c) true z (λ after. gives nil after))
         (called (code_at setting k turns) (method_routine setting.at) (chain ∷ length c.arguments ∷ address ∷ []) y))
         ⊥ (turns + entry_spare) z y (with_record setting.limit (Some c) true z (λ after. gives nil after))
