@@ -59,6 +59,7 @@ unfolding leaves
 leaves_costs bs q = from q.end
   where
     from : (e : End) → (left_from e bs q).state.cost ≡ q.state.cost
+    from falls = refl
     from e = refl
 
 pub leaves_because : (setting : Setting) (r : FlatEvaluated) (bs : List Block) (q : MidOutcome) → Because setting r q.end → Because setting r (leaves bs q).end
