@@ -1,5 +1,5 @@
 -- What is said from a later first register is said from an earlier one.
-use Rattle.std.proofs.Common.{ℕ, ◌≤◌, List}
+use Rattle.std.proofs.Common.{ℕ, ◌≤◌, List, ◌+◌}
 use Rattle.lang_meaning.specs.State.{DynamicContext}
 use Rattle.lang_meaning.specs.Counts.{unit_cost}
 use Rattle.flat_language.specs.FlatState.{FlatEnvironment, FlatState, FlatEvaluated}

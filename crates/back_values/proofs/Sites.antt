@@ -1,5 +1,5 @@
 -- A form with a site: its activation has a site that is known, and goes on with the one of before.
-use Rattle.std.proofs.Common.{◌≡◌, inr, ℕ, ◌≤◌, List, refl, ap, ◌∙◌}
+use Rattle.std.proofs.Common.{◌≡◌, inr, ℕ, ◌≤◌, List, refl, ap, ◌∙◌, ◌+◌}
 use Rattle.base.specs.declared.place.Place.{Place}
 use Rattle.lang_meaning.specs.Meaning.{place_of_site}
 use Rattle.lang_meaning.specs.State.{DynamicContext}
