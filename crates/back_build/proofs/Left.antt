@@ -15,6 +15,7 @@ use Rattle.rv_machine.specs.declared.image.Image.{Image}
 use Rattle.rv_machine.specs.Run.{Ended, run_of}
 use Rattle.mid_start.specs.declared.symbol_words.SymbolWord.{SymbolWord}
 use Rattle.back_image_sizes.specs.Sizes.{program_image_words}
+use Rattle.back_meant.specs.Laws.{GoesOn}
 use Rattle.back_build.specs.Means.{HasWord, HaltsWith, EndsUnhandled, EndsFull, IsFull, ImageMeans}
 use Rattle.back_build.specs.Compiled.{LawOfLeft}
 use Rattle.back_build.specs.Faults.{Fails, FailsReached}
@@ -102,6 +103,7 @@ module _ (names : List (List ℕ)) (program : ProgramRows) (symbols : List Symbo
     means = record {
       prefix = λ n few. subst (λ (m : Meant). IsPrefix (the_run n).at.printed m.printed) (same n unlimited) (h.prefix n few);
       ends = λ n few. ends_so n unlimited (the_run n) (h.ends n few);
+      paid = λ n few e. subst (λ (m : Meant). GoesOn m n) (same n unlimited) (h.paid n few e);
       full = λ n few f charge k holds le.
           subst (IsFull names program symbols) (same k (words charge))
           (is_full (meaning names left input k (words charge)) (h.full n few (no_room_left (the_run n) f) charge k holds le));

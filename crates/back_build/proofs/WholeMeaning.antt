@@ -16,7 +16,7 @@ use Rattle.flat_language.specs.FlatNodes.{tables}
 use Rattle.flat_language.specs.declared.program.FlatProgram.{FlatProgram}
 use Rattle.flat_language.specs.Law.{SameRun, LawOfClosures}
 use Rattle.flat_stores.specs.Laws.{LawOfStores}
-use Rattle.rv_machine.specs.declared.ending.Ending.TheVariants.{Halt, Unhandled}
+use Rattle.rv_machine.specs.declared.ending.Ending.TheVariants.{Budget, Halt, Unhandled}
 use Rattle.rv_machine.specs.Run.{Ended, run_of}
 use Rattle.mid_code.specs.State.{MidState}
 use Rattle.mid_arena.specs.Places.{word_of}
@@ -28,7 +28,7 @@ use Rattle.back_relation.specs.Worlds.{World}
 use Rattle.back_relation.specs.Things.{Things}
 use Rattle.back_claims.specs.Program.{ProgramBegins, meant_by, the_meaning, IsFullEnd}
 use Rattle.back_runs.specs.Ends.{Leaves}
-use Rattle.back_meant.specs.Laws.{with_limits, HaltsAs, UnhandledAs, EndsWell, MeantRuns}
+use Rattle.back_meant.specs.Laws.{with_limits, HaltsAs, UnhandledAs, EndsWell, IsOwnEnd, GoesOn, MeantRuns}
 use Rattle.back_build.specs.Means.{Holds, HasWord, HaltsWith, EndsUnhandled, EndsFull, IsFull}
 use Rattle.back_build.specs.Laws.{LawOfWholeMeaning}
 
@@ -116,6 +116,12 @@ module _ (closures : LawOfClosures) (stores : LawOfStores) (program : ProgramRow
   prefix : (n : ℕ) → n < 2 ^ 32 → IsPrefix (the_run n).at.printed (whole_meaning n unlimited).printed
   prefix n few = subst (λ printed. IsPrefix (the_run n).at.printed printed) (same n unlimited).printed (runs.prefix n)
 
+  paid : (n : ℕ) → n < 2 ^ 32 → (the_run n).ending ≡ Budget → GoesOn (whole_meaning n unlimited) n
+  paid n few e =
+      let flat_goes : GoesOn (meant_flat n unlimited) n = runs.paid n few e in
+      subst (λ g. (g ≡ ended_more) ⊎ (IsOwnEnd g × (n < bound (whole_meaning n unlimited).units))) (same n unlimited).end
+      (subst (λ u. ((meant_flat n unlimited).end ≡ ended_more) ⊎ (IsOwnEnd (meant_flat n unlimited).end × (n < bound u))) (same n unlimited).units flat_goes)
+
   well : (n turns : ℕ) → EndsWell (with_limits base unlimited turns) input n y (the_run n)
       → HaltsWith names program symbols (whole_meaning n unlimited) (the_run n) ⊎ EndsUnhandled names program symbols (whole_meaning n unlimited) (the_run n) ⊎ EndsFull names program symbols (the_run n)
   well n turns (inl (word, e, h)) = inl (halted n turns unlimited (the_run n) word e h)
@@ -171,6 +177,7 @@ whole_meaning_law closures stores program base symbols whole flat listed once at
     | inl budget ↦ inl budget
     | inr (turns, well_ended) ↦ inr (well closures stores program base symbols whole flat listed once at image arena input w y begins runs n turns well_ended)
   ];
+  paid = paid closures stores program base symbols whole flat listed once at image arena input w y begins runs;
   full = full closures stores program base symbols whole flat listed once at image arena input w y begins runs;
   in_time = λ charge k n holds low paid. (
     of_value closures stores program base symbols whole flat listed once at image arena input w y begins runs charge k n holds low paid,

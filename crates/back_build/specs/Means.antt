@@ -23,6 +23,7 @@ use Rattle.mid_start.specs.declared.symbol_words.SymbolWord.{SymbolWord}
 use Rattle.mid_start.specs.LaidWell.{AreSymbolsThere, AreDistinct}
 use Rattle.back_claims.specs.Program.{start_words}
 use Rattle.back_runs.specs.Ends.{Leaves}
+use Rattle.back_meant.specs.Laws.{GoesOn}
 
 -- the words of an arena that its program may be charged: those behind the image, but for the start's own
 abbrev pub Holds : (arena : ℕ) (image : List ℕ) (charge : ℕ) → Type 0
@@ -96,6 +97,9 @@ module _ (names : List (List ℕ)) (program : ProgramRows) (symbols : List Symbo
           ⊎ HaltsWith (meaning names program input n unlimited) (the_run n)
           ⊎ EndsUnhandled (meaning names program input n unlimited) (the_run n)
           ⊎ EndsFull (the_run n)
+      -- **paid**: where it goes on, the program does, with no limit of words, or it is charged more
+      pub paid :
+          (n : ℕ) → n < 2 ^ 32 → (the_run n).ending ≡ Budget → GoesOn (meaning names program input n unlimited) n
       -- **no room** comes only where image and charge together pass the arena: within words that the arena holds beside the image the program has no words left
       pub full :
           (n : ℕ) → n < 2 ^ 32 → EndsFull (the_run n)

@@ -143,7 +143,8 @@ module _ (setting : Setting) where
         frame = x.frame;
       })
   stack_back z r size kept (full_there x) = full_there (record { asked = x.asked; left_then = x.left_then; outcome = x.outcome; printed = x.printed })
-  stack_back z r size kept (stopped x) = stopped (record { because = x.because; printed = x.printed })
+  stack_back z r size kept (stopped x) =
+      stopped (record { because = x.because; printed = x.printed; paid = λ ended. omega (arith, x.paid ended) })
   stack_back z r size kept (few_turns x) = few_turns (omega (arith, x))
 
   -- **an application in words of its own**, behind so many units

@@ -54,6 +54,14 @@ leaves_printed bs q = from q.end
     from falls = refl
     from e = refl
 
+pub leaves_costs : (bs : List Block) (q : MidOutcome) → (leaves bs q).state.cost ≡ q.state.cost
+unfolding leaves
+leaves_costs bs q = from q.end
+  where
+    from : (e : End) → (left_from e bs q).state.cost ≡ q.state.cost
+    from falls = refl
+    from e = refl
+
 pub leaves_because : (setting : Setting) (r : FlatEvaluated) (bs : List Block) (q : MidOutcome) → Because setting r q.end → Because setting r (leaves bs q).end
 unfolding leaves
 leaves_because setting r bs q h = from q.end refl h
@@ -269,6 +277,7 @@ module _ (setting : Setting) (p : MidProcedure) {w : World} {z : FlatState} {y :
         stopped (record {
           because = leaves_because setting r y.arena.blocks q x.because;
           printed = subst (λ ps. IsPrefix ps r.state.state.printed) (sym (leaves_printed y.arena.blocks q)) x.printed;
+          paid = λ ended. omega (arith, x.paid ended, leaves_costs y.arena.blocks q);
         })
     frame_ends (few_turns x) = few_turns (omega (arith, x, size))
 
@@ -325,6 +334,7 @@ framed p f = record p { frame = f }
 
 module _ (setting : Setting) (room inside credit m : ℕ) (p : MidProcedure) (ws : List ℕ) (rs valid : List Standing) (w : World) (around : DynamicContext) (z : FlatState) (y : MidState)
     (r : FlatEvaluated) (f : ℕ) (within : f ≤ p.frame) (many : length ws ≡ p.parameters) (enough : p.frame + inside ≤ room) (grown : IsPrefix z.state.printed r.state.state.printed)
+    (units : (r.outcome ≡ more → ⊥) → z.state.units ≤ r.state.state.units + 1)
     (b : CallBegins setting rs valid room w around z y) where
   -- what was printed is a beginning of what the meaning prints
   printed_before : IsPrefix y.printed r.state.state.printed
@@ -341,7 +351,11 @@ module _ (setting : Setting) (room inside credit m : ℕ) (p : MidProcedure) (ws
       by : (left y.arena < f) ⊎ (f ≤ left y.arena) → CallEnds setting (credit + entry_cost p.parameters) m rs valid w around z y r (run_procedure c (framed p f) ws y)
       by (inl few) =
           subst (λ o. CallEnds setting (credit + entry_cost p.parameters) m rs valid w around z y r o) (sym (without_room c (framed p f) ws y many few))
-          (stopped (record { because = (room_ended setting.limit b.room b.things.within_limit few, few); printed = printed_before }))
+          (stopped (record {
+            because = (room_ended setting.limit b.room b.things.within_limit few, few);
+            printed = printed_before;
+            paid = λ ended. omega (arith, units ended);
+          }))
       by (inr some) =
           subst (λ o. CallEnds setting (credit + entry_cost p.parameters) m rs valid w around z y r o) (sym (with_room c (framed p f) ws y many some))
           (frame_ends setting (framed p f) b.things some
@@ -360,7 +374,7 @@ module _ (setting : Setting) (room inside credit m : ℕ) (p : MidProcedure) (ws
       (k n : ℕ) → (k ≡ zero → r.outcome ≡ more) → ((j : ℕ) → k ≡ suc j → BodyComes setting (code_at setting j setting.turns_each) p credit m inside ws rs valid w around z y r)
       → CallEnds setting (credit + entry_cost p.parameters) m rs valid w around z y r ((code_at setting k n).below (enter (framed p f) ws) y)
   unfolding levels turns
-  level_ends zero n none body = stopped (record { because = none refl; printed = printed_before })
+  level_ends zero n none body = stopped (record { because = none refl; printed = printed_before; paid = λ ended. absurd (ended (none refl)) })
   level_ends (suc j) n none body = procedure_ends (code_at setting j setting.turns_each) (body j refl)
 
 -- ---- where the meaning pays the frame inside
@@ -395,6 +409,7 @@ module _ (setting : Setting) (credit m : ℕ) (p : MidProcedure) (ws : List ℕ)
           (stopped (record {
             because = (wanting (omega (arith, short, within)), short);
             printed = subst (λ ps. IsPrefix ps r.state.state.printed) (sym things.represents.printed) grown.printed;
+            paid = λ ended. omega (arith, grown.units);
           }))
       by (inr some) =
           subst (λ o. CallEnds setting (credit + entry_cost p.parameters) m rs valid w around z y r o) (sym (with_room (code_at setting k j) (framed p f) ws y many some))
@@ -431,34 +446,36 @@ module _ (setting : Setting) where
       (k turns number m room inside credit : ℕ) (p : MidProcedure) (ws : List ℕ) (rs valid : List Standing) (w : World) (around : DynamicContext) (z : FlatState) (y : MidState)
       (r : FlatEvaluated)
       → slice_get (lowered setting.names setting.at setting.program) number ≡ Some p → p.counted ≡ Turn → length ws ≡ p.parameters → p.frame + inside ≤ room
-      → m + 16 * z.state.units ≤ turns + 50 + 16 * r.state.state.units → IsPrefix z.state.printed r.state.state.printed → CallBegins setting rs valid room w around z y
+      → m + 16 * z.state.units ≤ turns + 50 + 16 * r.state.state.units → IsPrefix z.state.printed r.state.state.printed
+      → ((r.outcome ≡ more → ⊥) → z.state.units ≤ r.state.state.units + 1) → CallBegins setting rs valid room w around z y
       → ((n : ℕ) → turns ≡ suc n → BodyComes setting (code_at setting k n) p credit m inside ws rs valid w around z y r)
       → CallEnds setting (credit + entry_cost p.parameters) m rs valid w around z y r (called (code_at setting k turns) number ws y)
-  turns_entered k n number m room inside credit p ws rs valid w around z y r found counted many enough few grown b body =
+  turns_entered k n number m room inside credit p ws rs valid w around z y r found counted many enough few grown units b body =
       let u = used_at _ setting.procedures number p setting.frames found in
       subst (λ o. CallEnds setting (credit + entry_cost p.parameters) m rs valid w around z y r o) (sym (called_by k n number p ws y Turn counted u))
-      (turn_ends setting room inside credit m p ws rs valid w around z y r u.frame u.within many enough grown b k n few body)
+      (turn_ends setting room inside credit m p ws rs valid w around z y r u.frame u.within many enough grown units b k n few body)
 
   pub turns_law : LawOfTurns setting
   turns_law k n number m room inside credit p ws rs valid w around z y r found counted many enough few grown b body =
-      turns_entered k n number m room inside credit p ws rs valid w around z y r found counted many enough (omega (arith, few, grown.units)) grown.printed b body
+      turns_entered k n number m room inside credit p ws rs valid w around z y r found counted many enough (omega (arith, few, grown.units)) grown.printed (λ ended. omega (arith, grown.units)) b body
 
   -- of the growth of the meaning only what is printed counts with a level
   pub levels_entered :
       (k turns number m room inside credit : ℕ) (p : MidProcedure) (ws : List ℕ) (rs valid : List Standing) (w : World) (around : DynamicContext) (z : FlatState) (y : MidState)
       (r : FlatEvaluated)
       → slice_get (lowered setting.names setting.at setting.program) number ≡ Some p → p.counted ≡ Level → length ws ≡ p.parameters → p.frame + inside ≤ room
-      → IsPrefix z.state.printed r.state.state.printed → CallBegins setting rs valid room w around z y → (k ≡ zero → r.outcome ≡ more)
+      → IsPrefix z.state.printed r.state.state.printed → ((r.outcome ≡ more → ⊥) → z.state.units ≤ r.state.state.units + 1)
+      → CallBegins setting rs valid room w around z y → (k ≡ zero → r.outcome ≡ more)
       → ((j : ℕ) → k ≡ suc j → BodyComes setting (code_at setting j setting.turns_each) p credit m inside ws rs valid w around z y r)
       → CallEnds setting (credit + entry_cost p.parameters) m rs valid w around z y r (called (code_at setting k turns) number ws y)
-  levels_entered k n number m room inside credit p ws rs valid w around z y r found counted many enough grown b none body =
+  levels_entered k n number m room inside credit p ws rs valid w around z y r found counted many enough grown units b none body =
       let u = used_at _ setting.procedures number p setting.frames found in
       subst (λ o. CallEnds setting (credit + entry_cost p.parameters) m rs valid w around z y r o) (sym (called_by k n number p ws y Level counted u))
-      (level_ends setting room inside credit m p ws rs valid w around z y r u.frame u.within many enough grown b k n none body)
+      (level_ends setting room inside credit m p ws rs valid w around z y r u.frame u.within many enough grown units b k n none body)
 
   pub entered_levels_law : LawOfEnteredLevels setting
   entered_levels_law k n number m room inside credit p ws rs valid w around z y r found counted many enough grown b none body =
-      levels_entered k n number m room inside credit p ws rs valid w around z y r found counted many enough grown.printed b none body
+      levels_entered k n number m room inside credit p ws rs valid w around z y r found counted many enough grown.printed (λ ended. omega (arith, grown.units)) b none body
 
   pub paid_turns_law : LawOfPaidTurns setting
   paid_turns_law k n number m credit p ws rs valid w around z y r found counted many few grown things stands wanting body =
@@ -482,17 +499,21 @@ module _ (setting : Setting) where
 
   -- where there is no level, nothing is said of the frame, nor of what units were charged
   pub no_level_at :
-      {Done Left : Type 0} (turns number m : ℕ) (p : MidProcedure) (ws : List ℕ) (w : World) (z : FlatState) (before y : MidState) (counted_from : FlatState) (r : FlatEvaluated)
+      {credit : ℕ} {Done Left : Type 0} (turns number m : ℕ) (p : MidProcedure) (ws : List ℕ) (w : World) (z : FlatState) (before y : MidState) (counted_from : FlatState) (r : FlatEvaluated)
       → slice_get (lowered setting.names setting.at setting.program) number ≡ Some p → p.counted ≡ Level → r.outcome ≡ more → FlatGrown z r.state → Things setting w z y
-      → Ends setting Done Left m counted_from before r (called (code_at setting zero turns) number ws y)
+      → Ends setting credit Done Left m counted_from before r (called (code_at setting zero turns) number ws y)
   unfolding levels
-  no_level_at {Done} {Left} turns number m p ws w z before y counted_from r found counted none grown t =
+  no_level_at {credit} {Done} {Left} turns number m p ws w z before y counted_from r found counted none grown t =
       let u = used_at _ setting.procedures number p setting.frames found in
-      subst (λ o. Ends setting Done Left m counted_from before r o) (sym (called_by zero turns number p ws y Level counted u))
-      (stopped (record { because = none; printed = subst (λ ps. IsPrefix ps r.state.state.printed) (sym t.represents.printed) grown.printed }))
+      subst (λ o. Ends setting credit Done Left m counted_from before r o) (sym (called_by zero turns number p ws y Level counted u))
+      (stopped (record {
+        because = none;
+        printed = subst (λ ps. IsPrefix ps r.state.state.printed) (sym t.represents.printed) grown.printed;
+        paid = λ ended. absurd (ended none);
+      }))
 
   pub no_level_ends :
-      {Done Left : Type 0} (turns number m : ℕ) (p : MidProcedure) (ws : List ℕ) (w : World) (z : FlatState) (before y : MidState) (r : FlatEvaluated)
+      {credit : ℕ} {Done Left : Type 0} (turns number m : ℕ) (p : MidProcedure) (ws : List ℕ) (w : World) (z : FlatState) (before y : MidState) (r : FlatEvaluated)
       → slice_get (lowered setting.names setting.at setting.program) number ≡ Some p → p.counted ≡ Level → r.outcome ≡ more → FlatGrown z r.state → Things setting w z y
-      → Ends setting Done Left m z before r (called (code_at setting zero turns) number ws y)
+      → Ends setting credit Done Left m z before r (called (code_at setting zero turns) number ws y)
   no_level_ends turns number m p ws w z before y r found counted none grown t = no_level_at turns number m p ws w z before y z r found counted none grown t

@@ -36,6 +36,10 @@ called_state q to rs = from q.end
     from falls = refl
     from e = refl
 
+-- it costs nothing
+pub called_costs : (q : MidOutcome) (to : ℕ) (rs : Registers) → (mid_called q to rs).state.cost ≡ q.state.cost
+called_costs q to rs = ap (λ (s : MidState). s.cost) (called_state q to rs)
+
 pub called_returned : (q : MidOutcome) (to : ℕ) (rs : Registers) {word : ℕ} → q.end ≡ returns word → mid_called q to rs ≡ ends falls (slice_set rs to (Some word)) q.state
 unfolding mid_called
 called_returned q to rs e = ap (λ l. called_from l to rs q.state) e
@@ -162,6 +166,7 @@ module _ (setting : Setting) (a : Start setting) (cost credit d : ℕ) (low : a.
       stopped (record {
         because = called_because setting r q d a.regs x.because;
         printed = subst (λ (s : MidState). IsPrefix s.printed r.state.state.printed) (sym (called_state q d a.regs)) x.printed;
+        paid = λ ended. omega (arith, x.paid ended, called_costs q d a.regs);
       })
   form_ends (few_turns x) = few_turns x
 

@@ -5,6 +5,7 @@ use Rattle.lang_meaning.specs.Prefixes.{IsPrefix}
 use Rattle.lang_meaning.specs.State.{DynamicContext, Limit, words, unlimited}
 use Rattle.lang_meaning.specs.State as meaning
 use Rattle.lang_meaning.specs.Values.{nil}
+use Rattle.lang_meaning.specs.Counts.{unit_cost}
 use Rattle.flat_language.specs.FlatState.{FlatState, FlatEvaluated, gives, go_on}
 use Rattle.mid_code.specs.Costs.{return_cost}
 use Rattle.mid_code.specs.Law.{Grown}
@@ -28,12 +29,13 @@ use Rattle.back_relation.specs.Starts.{FlatGrown, ReachedFrom}
 use Rattle.back_relation.proofs.Activations.{activation_later}
 use Rattle.back_relation.proofs.Growth.{both_prefix, then_value, then_other, then_grown, same_flat}
 use Rattle.back_relation.proofs.Parts.{go_on_falls, go_on_last, step_then}
+use Rattle.back_relation.proofs.Stops.{stopped_before}
 use Rattle.back_relation.proofs.Straight.{set_beside, registers_set, world_cost, around_cost}
 use Rattle.back_relation.proofs.Then.{same_world, world_then, back_then, stopped_last, because_then}
 use Rattle.back_relation.proofs.Choices.{go_gives}
 use Rattle.back_calling.specs.Calling.{WordsIn, call_cost}
 use Rattle.back_calling.specs.Inner.{LawOfGoingOn, LawOfPassing, LawOfReturns, LawOfReturning, LawOfCallsThen, LawOfLooking, LawOfFormLooking}
-use Rattle.back_calling.proofs.Formed.{called_state, called_returned, called_cut, called_because, call_comes}
+use Rattle.back_calling.proofs.Formed.{called_state, called_costs, called_returned, called_cut, called_because, call_comes}
 use Rattle.back_calling.proofs.Transferring.{transfers_behind, transfers_as}
 
 -- what a call comes to behind its cost
@@ -41,8 +43,8 @@ abbrev after : Context → (number : ℕ) → (arguments ws : List ℕ) → MidS
 after c number arguments ws y = called c number ws (mid_charged (call_cost arguments) y)
 
 module _ (setting : Setting) where
-  abbrev EndsBy : (Done Left : MidOutcome → Type 0) → ℕ → FlatState → MidState → FlatEvaluated → MidOutcome → Type 0
-  EndsBy Done Left m z y r p = Ends setting (Done p) (Left p) m z y r p
+  abbrev EndsBy : (credit : ℕ) → (Done Left : MidOutcome → Type 0) → ℕ → FlatState → MidState → FlatEvaluated → MidOutcome → Type 0
+  EndsBy credit Done Left m z y r p = Ends setting credit (Done p) (Left p) m z y r p
 
   -- a result behind what was done
   abbrev pub returned_behind :
@@ -68,7 +70,7 @@ module _ (setting : Setting) where
       by (done x) = done (returned_behind k a enough frame x)
       by (left_by x) = left_by (record { transfer = transfers_behind setting k a enough x.transfer; frame = x.frame ∙ frame })
       by (full_there x) = full_there x
-      by (stopped x) = stopped x
+      by (stopped x) = stopped (stopped_before setting (omega (arith, a.paid, enough)) x)
       by (few_turns x) = few_turns (omega (arith, x, fewer, k.same_size))
 
   -- **no routine falls out of its end**
@@ -165,6 +167,8 @@ module _ (setting : Setting) where
           (stopped (record {
             because = because_then setting r f (mid_called (after c number arguments ws y) t regs).end flat_later because;
             printed = both_prefix (subst (λ (s : MidState). IsPrefix s.printed r.state.state.printed) (sym (called_state (after c number arguments ws y) t regs)) x.printed) flat_later.printed;
+            paid = λ ended.
+                omega (arith, enough, x.paid (λ none. ended (because_then setting r f no_level flat_later none)), flat_later.units, called_costs (after c number arguments ws y) t regs);
           }))
       cases (few_turns x) = few_turns (omega (arith, x, fewer, flat_later.units))
 
@@ -205,38 +209,40 @@ module _ (setting : Setting) where
 
   -- **a routine that only looks**: it returns a word, or what comes to r1 stops there, which is nothing else but what r comes to
   pub looked :
-      (Done Left : MidOutcome → Type 0) (There : Type 0) (word_of : There → ℕ) (c : Context) (turns m t number : ℕ) (arguments ws : List ℕ) (z : FlatState) (y : MidState) (regs : Registers)
+      (c1 credit : ℕ) (Done Left : MidOutcome → Type 0) (There : Type 0) (word_of : There → ℕ) (c : Context) (turns m t number : ℕ) (arguments ws : List ℕ) (z : FlatState) (y : MidState) (regs : Registers)
       (r1 r : FlatEvaluated) (next : Next)
-      → WordsIn regs arguments ws → m ≤ turns → FlatGrown r1.state r.state → ((g : Registers) (x : MidState) → Grown x (next g x).state)
+      → WordsIn regs arguments ws → m ≤ turns → c1 + call_cost arguments ≤ credit → FlatGrown r1.state r.state → ((g : Registers) (x : MidState) → Grown x (next g x).state)
       → ((end : End) → Because setting r1 end → Because setting r end) → ((asked left_then : ℕ) → r1.outcome ≡ meaning.full asked left_then → ⊥)
       → ((x : There) → (after c number arguments ws y).end ≡ returns (word_of x))
-      → Ends setting There ⊥ turns z (mid_charged (call_cost arguments) y) r1 (after c number arguments ws y)
-      → ((x : There) → EndsBy Done Left m z y r (next (slice_set regs t (Some (word_of x))) (after c number arguments ws y).state))
-      → EndsBy Done Left m z y r (mid_go_on (exec_step c (call t number arguments) regs y) next)
-  looked Done Left There word_of c turns m t number arguments ws z y regs r1 r next there fewer flat_grown grown because_of never_full returned e h = by e
+      → Ends setting c1 There ⊥ turns z (mid_charged (call_cost arguments) y) r1 (after c number arguments ws y)
+      → ((x : There) → EndsBy credit Done Left m z y r (next (slice_set regs t (Some (word_of x))) (after c number arguments ws y).state))
+      → EndsBy credit Done Left m z y r (mid_go_on (exec_step c (call t number arguments) regs y) next)
+  looked c1 credit Done Left There word_of c turns m t number arguments ws z y regs r1 r next there fewer enough flat_grown grown because_of never_full returned e h = by e
     where
       stepped : mid_go_on (exec_step c (call t number arguments) regs y) next ≡ mid_go_on (mid_called (after c number arguments ws y) t regs) next
       stepped = ap (λ p. mid_go_on p next) (call_comes c regs y t number arguments ws there)
 
-      cases : Ends setting There ⊥ turns z (mid_charged (call_cost arguments) y) r1 (after c number arguments ws y) → EndsBy Done Left m z y r (mid_go_on (mid_called (after c number arguments ws y) t regs) next)
+      cases : Ends setting c1 There ⊥ turns z (mid_charged (call_cost arguments) y) r1 (after c number arguments ws y) → EndsBy credit Done Left m z y r (mid_go_on (mid_called (after c number arguments ws y) t regs) next)
       cases (done x) =
-          subst (λ p. EndsBy Done Left m z y r p)
+          subst (λ p. EndsBy credit Done Left m z y r p)
           (sym (ap (λ p. mid_go_on p next) (called_returned (after c number arguments ws y) t regs (returned x)) ∙ go_on_falls (ends falls (slice_set regs t (Some (word_of x))) (after c number arguments ws y).state) next refl))
           (h x)
       cases (left_by x) = absurd x
       cases (full_there x) = absurd (never_full x.asked x.left_then x.outcome)
       cases (stopped x) =
           let because : Because setting r (mid_called (after c number arguments ws y) t regs).end = called_because setting r (after c number arguments ws y) t regs (because_of (after c number arguments ws y).end x.because) in
-          subst (λ p. EndsBy Done Left m z y r p)
+          subst (λ p. EndsBy credit Done Left m z y r p)
           (sym (go_on_last (mid_called (after c number arguments ws y) t regs).end (mid_called (after c number arguments ws y) t regs) next refl (stopped_last setting r (mid_called (after c number arguments ws y) t regs).end because)))
           (stopped (record {
             because = because;
             printed = both_prefix (subst (λ (s : MidState). IsPrefix s.printed r1.state.state.printed) (sym (called_state (after c number arguments ws y) t regs)) x.printed) flat_grown.printed;
+            paid = λ ended.
+                omega (arith, enough, x.paid (λ none. ended (because_of no_level none)), flat_grown.units, called_costs (after c number arguments ws y) t regs);
           }))
       cases (few_turns x) = few_turns (omega (arith, x, fewer, flat_grown.units))
 
-      by : Ends setting There ⊥ turns z (mid_charged (call_cost arguments) y) r1 (after c number arguments ws y) → EndsBy Done Left m z y r (mid_go_on (exec_step c (call t number arguments) regs y) next)
-      by x = subst (λ p. EndsBy Done Left m z y r p) (sym stepped) (cases x)
+      by : Ends setting c1 There ⊥ turns z (mid_charged (call_cost arguments) y) r1 (after c number arguments ws y) → EndsBy credit Done Left m z y r (mid_go_on (exec_step c (call t number arguments) regs y) next)
+      by x = subst (λ p. EndsBy credit Done Left m z y r p) (sym stepped) (cases x)
 
   -- where the meaning does nothing, code stops for nothing but room that nobody counts
   pub nothing_because :
@@ -257,17 +263,17 @@ module _ (setting : Setting) where
   nothing_because r things flat_grown stuck b = absurd b
 
   pub looking :
-      (Done Left : MidOutcome → Type 0) (c : Context) (k turns m t number most word : ℕ) (arguments ws : List ℕ) (rs valid : List Standing) (w : World) (around : DynamicContext) (z : FlatState)
+      (credit : ℕ) (Done Left : MidOutcome → Type 0) (c : Context) (k turns m t number most word : ℕ) (arguments ws : List ℕ) (rs valid : List Standing) (w : World) (around : DynamicContext) (z : FlatState)
       (y : MidState) (regs : Registers) (r : FlatEvaluated) (next : Next)
-      → WordsIn regs arguments ws → Things setting w z y → m ≤ turns → FlatGrown z r.state → ((g : Registers) (x : MidState) → Grown x (next g x).state)
-      → Ends setting (Looks setting k turns rs valid w around z (mid_charged (call_cost arguments) y) most word (after c number arguments ws y)) ⊥ turns z
+      → WordsIn regs arguments ws → Things setting w z y → m ≤ turns → most + call_cost arguments ≤ credit → FlatGrown z r.state → ((g : Registers) (x : MidState) → Grown x (next g x).state)
+      → Ends setting most (Looks setting k turns rs valid w around z (mid_charged (call_cost arguments) y) most word (after c number arguments ws y)) ⊥ turns z
       (mid_charged (call_cost arguments) y) (gives nil z) (after c number arguments ws y)
       → (WorldKept setting w w z z y (after c number arguments ws y).state → Around setting (most + call_cost arguments) z z y (after c number arguments ws y).state
-      → EndsBy Done Left m z y r (next (slice_set regs t (Some word)) (after c number arguments ws y).state))
-      → EndsBy Done Left m z y r (mid_go_on (exec_step c (call t number arguments) regs y) next)
-  looking Done Left c k turns m t number most word arguments ws rs valid w around z y regs r next there things fewer flat_grown grown e h =
-      looked Done Left (Looks setting k turns rs valid w around z (mid_charged (call_cost arguments) y) most word (after c number arguments ws y)) (λ x. word) c turns m t number arguments ws z
-      y regs (gives nil z) r next there fewer flat_grown grown (nothing_because r things flat_grown) (λ asked left_then e. absurd (cc e)) (λ x. x.end) e
+      → EndsBy credit Done Left m z y r (next (slice_set regs t (Some word)) (after c number arguments ws y).state))
+      → EndsBy credit Done Left m z y r (mid_go_on (exec_step c (call t number arguments) regs y) next)
+  looking credit Done Left c k turns m t number most word arguments ws rs valid w around z y regs r next there things fewer enough flat_grown grown e h =
+      looked most credit Done Left (Looks setting k turns rs valid w around z (mid_charged (call_cost arguments) y) most word (after c number arguments ws y)) (λ x. word) c turns m t number arguments ws z
+      y regs (gives nil z) r next there fewer enough flat_grown grown (nothing_because r things flat_grown) (λ asked left_then e. absurd (cc e)) (λ x. x.end) e
       (λ x.
       h (world_then setting (world_cost setting (call_cost arguments) things) (around_cost setting {credit = call_cost arguments} z y (call_cost arguments) (omega arith)) x.world)
       (back_then setting (world_cost setting (call_cost arguments) things) (around_cost setting {credit = call_cost arguments} z y (call_cost arguments) (omega arith)) (omega arith) x.back))
@@ -275,17 +281,17 @@ module _ (setting : Setting) where
   -- in a routine
   pub looking_law : LawOfLooking setting
   looking_law c k turns m t number most word c2 credit arguments ws rs valid w around z y regs r next there things fewer enough flat_grown grown e h =
-      looking (λ p. Returned setting credit w z y r p) (λ p. LeftCall setting credit rs valid w around z y r p) c k turns m t number most word arguments ws rs valid w around z y regs r
-      next there things fewer flat_grown grown e
+      looking (credit + unit_cost) (λ p. Returned setting credit w z y r p) (λ p. LeftCall setting credit rs valid w around z y r p) c k turns m t number most word arguments ws rs valid w around z y regs r
+      next there things fewer (omega (arith, enough)) flat_grown grown e
       (λ world back.
       going_on_law (most + call_cost arguments) c2 credit m m rs valid w w around z z y (after c number arguments ws y).state r
       (next (slice_set regs t (Some word)) (after c number arguments ws y).state) world back enough (omega arith) refl (h world back))
 
   -- in a form
   pub form_looking_law : LawOfFormLooking setting
-  form_looking_law c a k d t number most word credit arguments ws r next low there held flat_grown grown e h =
-      looking (λ p. Fell setting credit a.rs a.valid a.s d a.w a.env a.around a.z a.regs a.y r p) (λ p. Left setting credit a.rs a.valid a.s d a.w a.env a.around a.z a.regs a.y r p) c k a.turns
-      a.turns t number most word arguments ws a.rs a.valid a.w a.around a.z a.y a.regs r next held a.begins.call.things (omega arith) flat_grown grown e
+  form_looking_law c a k d t number most word credit arguments ws r next low there enough held flat_grown grown e h =
+      looking (credit + unit_cost) (λ p. Fell setting credit a.rs a.valid a.s d a.w a.env a.around a.z a.regs a.y r p) (λ p. Left setting credit a.rs a.valid a.s d a.w a.env a.around a.z a.regs a.y r p) c k a.turns
+      a.turns t number most word arguments ws a.rs a.valid a.w a.around a.z a.y a.regs r next held a.begins.call.things (omega arith) (omega (arith, enough)) flat_grown grown e
       (λ world back. h (reached world back))
     where
       reached :

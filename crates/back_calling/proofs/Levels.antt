@@ -5,6 +5,7 @@ use Rattle.std.proofs.lemmas.Bool.{cases_lt}
 use Rattle.lang_meaning.specs.Prefixes.{IsPrefix}
 use Rattle.lang_meaning.specs.State.{DynamicContext, Limit, words, unlimited, more, value}
 use Rattle.lang_meaning.specs.Values.{nil}
+use Rattle.lang_meaning.specs.Counts.{unit_cost}
 use Rattle.flat_language.specs.FlatMeaning.{flat_meaning_at}
 use Rattle.flat_language.specs.FlatSignals.{nothing, descend}
 use Rattle.flat_language.specs.FlatState.{FlatEnvironment, no_environment, FlatState, FlatEvaluated, gives, go_on}
@@ -33,7 +34,7 @@ use Rattle.back_relation.specs.Around.{RoomFor, CallBegins, SiteStored}
 use Rattle.back_relation.specs.Ends.{WorldKept, Around, Ends, RoomEnded, done, stopped, Fell, Left, Returned, LeftCall}
 use Rattle.back_relation.specs.Forms.{below_at, code_at}
 use Rattle.back_relation.specs.Procedures.{called}
-use Rattle.back_relation.specs.RoutineClaims.{LevelThere}
+use Rattle.back_relation.specs.RoutineClaims.{level_credit, LevelThere}
 use Rattle.back_relation.specs.Starts.{FlatGrown, ReachedFrom}
 use Rattle.back_relation.proofs.Activations.{activation_later}
 use Rattle.back_relation.proofs.Growth.{same_flat}
@@ -88,19 +89,20 @@ module _ (setting : Setting) where
     -- with a frame that is within its own
     with_frame :
         (f : ℕ) → f ≤ level_words → CallBegins setting rs valid level_words w around z y → (left y.arena < f) ⊎ (f ≤ left y.arena)
-        → Ends setting (IsThere (run_procedure below_it (framed routine f) [] y)) ⊥ m z y (gives nil z) (run_procedure below_it (framed routine f) [] y)
+        → Ends setting level_credit (IsThere (run_procedure below_it (framed routine f) [] y)) ⊥ m z y (gives nil z) (run_procedure below_it (framed routine f) [] y)
     with_frame f within b (inl few) =
-        subst (λ q. Ends setting (IsThere q) ⊥ m z y (gives nil z) q) (sym (without_room below_it (framed routine f) [] y refl few))
+        subst (λ q. Ends setting level_credit (IsThere q) ⊥ m z y (gives nil z) q) (sym (without_room below_it (framed routine f) [] y refl few))
         (stopped (record {
           because = (wanting setting.limit b.room b.things.within_limit, few);
           printed = subst (λ ps. IsPrefix ps z.state.printed) (sym b.things.represents.printed) (same_flat z).printed;
+          paid = λ ended. omega arith;
         }))
       where
         wanting : (l : Limit) → RoomFor l (level_words + words_for_handler * length around.handlers) z.state y → WithinLimit l z.state → RoomEnded setting l (value nil)
         wanting unlimited h k = tt
         wanting (words n) h k = absurd (omega (arith, h, k, few, within))
     with_frame f within b (inr some) =
-        subst (λ q. Ends setting (IsThere q) ⊥ m z y (gives nil z) q) (sym (routine_runs below_it f y some))
+        subst (λ q. Ends setting level_credit (IsThere q) ⊥ m z y (gives nil z) q) (sym (routine_runs below_it f y some))
         (done (record {
           word = 0;
           end = refl;
@@ -118,11 +120,11 @@ module _ (setting : Setting) where
   pub levels_there_at :
       (j turns m : ℕ) (rs valid : List Standing) (w : World) (around : DynamicContext) (z : FlatState) (y : MidState) → IsPlaced setting
       → CallBegins setting rs valid level_words w around z y
-      → Ends setting (LevelThere setting (suc j) turns rs valid w around z y (called (code_at setting (suc j) turns) (level_routine setting.at) [] y)) ⊥ m z y (gives nil z)
+      → Ends setting level_credit (LevelThere setting (suc j) turns rs valid w around z y (called (code_at setting (suc j) turns) (level_routine setting.at) [] y)) ⊥ m z y (gives nil z)
       (called (code_at setting (suc j) turns) (level_routine setting.at) [] y)
   levels_there_at j turns m rs valid w around z y placed b =
       let at : RunsAt setting j turns (level_routine setting.at) routine [] y = level_runs setting j turns (level_routine setting.at) routine [] y ((numbers_law setting).routine 15 _ placed refl) refl in
-      subst (λ q. Ends setting (IsThere j turns m rs valid w around z y q) ⊥ m z y (gives nil z) q) (sym at.runs)
+      subst (λ q. Ends setting level_credit (IsThere j turns m rs valid w around z y q) ⊥ m z y (gives nil z) q) (sym at.runs)
       (with_frame j turns m rs valid w around z y at.frame (let within = at.within in omega (arith, within, frame_small)) b (cases_lt (left y.arena) at.frame))
 
   pub levels_there_law : LawOfLevelsThere setting
@@ -130,7 +132,7 @@ module _ (setting : Setting) where
       no_level_ends setting turns (level_routine setting.at) turns routine [] w z y y _ ((numbers_law setting).routine 15 _ placed refl) refl refl (same_flat z) b.things
   levels_there_law (suc j) turns rs valid w around z y placed b =
       let code_end : MidOutcome = called (code_at setting (suc j) turns) (level_routine setting.at) [] y in
-      subst (λ r. Ends setting (IsThere j turns turns rs valid w around z y code_end) ⊥ turns z y r code_end) (sym (level_there j (λ entered. gives nil entered) around z))
+      subst (λ r. Ends setting level_credit (IsThere j turns turns rs valid w around z y code_end) ⊥ turns z y r code_end) (sym (level_there j (λ entered. gives nil entered) around z))
       (levels_there_at j turns turns rs valid w around z y placed b)
 
   -- ---- what comes behind a level
@@ -147,9 +149,9 @@ module _ (setting : Setting) where
   -- the level is judged behind the cost of the call
   judged :
       (j turns : ℕ) (rs valid : List Standing) (w : World) (around : DynamicContext) (z : FlatState) (y : MidState) → IsPlaced setting → CallBegins setting rs valid level_words w around z y
-      → Ends setting (IsJudged (suc j) turns rs valid w around z y) ⊥ turns z (mid_charged 40 y) (gives nil z) (level_called (suc j) turns y)
+      → Ends setting level_credit (IsJudged (suc j) turns rs valid w around z y) ⊥ turns z (mid_charged 40 y) (gives nil z) (level_called (suc j) turns y)
   judged j turns rs valid w around z y placed b =
-      subst (λ r. Ends setting (IsJudged (suc j) turns rs valid w around z y) ⊥ turns z (mid_charged 40 y) r (level_called (suc j) turns y))
+      subst (λ r. Ends setting level_credit (IsJudged (suc j) turns rs valid w around z y) ⊥ turns z (mid_charged 40 y) r (level_called (suc j) turns y))
       (level_there j (λ entered. gives nil entered) around z)
       (levels_there_law (suc j) turns rs valid w around z (mid_charged 40 y) placed
       (call_then setting (world_cost setting 40 b.things) (around_cost setting {credit = 40} z y 40 (omega arith)) level_words b (room setting.limit b.room)))
@@ -160,27 +162,27 @@ module _ (setting : Setting) where
 
   -- whatever it comes to
   judged_by :
-      (Done Left : FlatEvaluated → MidOutcome → Type 0) (k turns m t : ℕ) (rs valid : List Standing) (w : World) (around : DynamicContext) (z : FlatState) (y : MidState) (regs : Registers)
+      (credit : ℕ) (Done Left : FlatEvaluated → MidOutcome → Type 0) (k turns m t : ℕ) (rs valid : List Standing) (w : World) (around : DynamicContext) (z : FlatState) (y : MidState) (regs : Registers)
       (f : FlatState → FlatEvaluated) (next : Next)
-      → IsPlaced setting → CallBegins setting rs valid level_words w around z y → m ≤ turns → FlatGrown z (f z).state
+      → IsPlaced setting → CallBegins setting rs valid level_words w around z y → m ≤ turns → judging_cost ≤ credit → FlatGrown z (f z).state
       → ((g : Registers) (x : MidState) → Grown x (next g x).state)
       → ((j : ℕ) → k ≡ suc j → (word : ℕ) (y' : MidState) → WorldKept setting w w z z y y' → Around setting judging_cost z z y y' → (SiteStored setting around y → SiteStored setting around y')
-      → Ends setting (Done (f z) (next (slice_set regs t (Some word)) y')) (Left (f z) (next (slice_set regs t (Some word)) y')) m z y (f z) (next (slice_set regs t (Some word)) y'))
-      → Ends setting (Done (descend (below_at setting k) f around z) (behind_level k turns t regs y next)) (Left (descend (below_at setting k) f around z) (behind_level k turns t regs y next)) m z y
+      → Ends setting credit (Done (f z) (next (slice_set regs t (Some word)) y')) (Left (f z) (next (slice_set regs t (Some word)) y')) m z y (f z) (next (slice_set regs t (Some word)) y'))
+      → Ends setting credit (Done (descend (below_at setting k) f around z) (behind_level k turns t regs y next)) (Left (descend (below_at setting k) f around z) (behind_level k turns t regs y next)) m z y
       (descend (below_at setting k) f around z) (behind_level k turns t regs y next)
-  judged_by Done Left zero turns m t rs valid w around z y regs f next placed b fewer flat_grown grown h =
+  judged_by credit Done Left zero turns m t rs valid w around z y regs f next placed b fewer enough flat_grown grown h =
       let none : FlatEvaluated = record { outcome = more; state = z } in
-      looked setting (λ q. Done none q) (λ q. Left none q) ⊥ (λ x. 0) (code_at setting zero turns) turns m t (level_routine setting.at) [] [] z y regs none none next tt fewer (same_flat z) grown
+      looked setting level_credit credit (λ q. Done none q) (λ q. Left none q) ⊥ (λ x. 0) (code_at setting zero turns) turns m t (level_routine setting.at) [] [] z y regs none none next tt fewer (omega (arith, enough)) (same_flat z) grown
       (λ end because. because) (λ asked left_then e. absurd (cc e)) (λ x. absurd x)
       (no_level_ends setting turns (level_routine setting.at) turns routine [] w z (mid_charged 40 y) (mid_charged 40 y) none ((numbers_law setting).routine 15 _ placed refl) refl refl (same_flat z)
       (world_cost setting 40 b.things).things)
       (λ x. absurd x)
-  judged_by Done Left (suc j) turns m t rs valid w around z y regs f next placed b fewer flat_grown grown h =
+  judged_by credit Done Left (suc j) turns m t rs valid w around z y regs f next placed b fewer enough flat_grown grown h =
       subst
-      (λ r. Ends setting (Done r (behind_level (suc j) turns t regs y next)) (Left r (behind_level (suc j) turns t regs y next)) m z y r (behind_level (suc j) turns t regs y next))
+      (λ r. Ends setting credit (Done r (behind_level (suc j) turns t regs y next)) (Left r (behind_level (suc j) turns t regs y next)) m z y r (behind_level (suc j) turns t regs y next))
       (sym (level_there j f around z))
-      (looked setting (λ q. Done (f z) q) (λ q. Left (f z) q) (IsJudged (suc j) turns rs valid w around z y) (λ x. x.word) (code_at setting (suc j) turns) turns m t (level_routine setting.at) [] [] z y
-      regs (gives nil z) (f z) next tt fewer flat_grown grown (nothing_because setting (f z) b.things flat_grown) (λ asked left_then e. absurd (cc e)) (λ x. x.end)
+      (looked setting level_credit credit (λ q. Done (f z) q) (λ q. Left (f z) q) (IsJudged (suc j) turns rs valid w around z y) (λ x. x.word) (code_at setting (suc j) turns) turns m t (level_routine setting.at) [] [] z y
+      regs (gives nil z) (f z) next tt fewer (omega (arith, enough)) flat_grown grown (nothing_because setting (f z) b.things flat_grown) (λ asked left_then e. absurd (cc e)) (λ x. x.end)
       (judged j turns rs valid w around z y placed b)
       (λ x.
       h j refl x.word (level_called (suc j) turns y).state (world_then setting (world_cost setting 40 b.things) (around_cost setting {credit = 40} z y 40 (omega arith)) x.world)
@@ -189,15 +191,15 @@ module _ (setting : Setting) where
   -- in a procedure
   pub judged_levels_law : LawOfJudgedLevels setting
   judged_levels_law k turns m t c2 credit rs valid w around z y regs f next placed b fewer enough flat_grown grown h =
-      judged_by (λ r q. Returned setting credit w z y r q) (λ r q. LeftCall setting credit rs valid w around z y r q) k turns m t rs valid w around z y regs f next placed b fewer flat_grown grown
+      judged_by (credit + unit_cost) (λ r q. Returned setting credit w z y r q) (λ r q. LeftCall setting credit rs valid w around z y r q) k turns m t rs valid w around z y regs f next placed b fewer (omega (arith, enough)) flat_grown grown
       (λ j same word y' world back site.
       going_on_law setting judging_cost c2 credit m m rs valid w w around z z y y' (f z) (next (slice_set regs t (Some word)) y') world back enough (omega arith) refl (h j same word y' world back site))
 
   -- in a form
   pub form_levels_law : LawOfFormLevels setting
-  form_levels_law k credit a d t f next placed room low there flat_grown grown h =
-      judged_by (λ r q. Fell setting credit a.rs a.valid a.s d a.w a.env a.around a.z a.regs a.y r q) (λ r q. Left setting credit a.rs a.valid a.s d a.w a.env a.around a.z a.regs a.y r q) k a.turns a.turns t
-      a.rs a.valid a.w a.around a.z a.y a.regs f next placed (record { things = a.begins.call.things; around_stands = a.begins.call.around_stands; room = fewer setting.limit a.begins.call.room }) (omega arith) flat_grown grown
+  form_levels_law k credit a d t f next placed room low there enough flat_grown grown h =
+      judged_by (credit + unit_cost) (λ r q. Fell setting credit a.rs a.valid a.s d a.w a.env a.around a.z a.regs a.y r q) (λ r q. Left setting credit a.rs a.valid a.s d a.w a.env a.around a.z a.regs a.y r q) k a.turns a.turns t
+      a.rs a.valid a.w a.around a.z a.y a.regs f next placed (record { things = a.begins.call.things; around_stands = a.begins.call.around_stands; room = fewer setting.limit a.begins.call.room }) (omega arith) (omega (arith, enough)) flat_grown grown
       (λ j same word y' world back site. h j same word y' (reached word y' world back) site)
     where
       fewer : (l : Limit) → RoomFor l (a.n + words_for_handler * length a.around.handlers) a.z.state a.y → RoomFor l (level_words + words_for_handler * length a.around.handlers) a.z.state a.y

@@ -12,6 +12,7 @@ use Rattle.back_relation.specs.Things.{Things, WithinLimit}
 use Rattle.back_relation.specs.Room.{words_for_handler}
 use Rattle.back_relation.specs.Around.{RoomFor, CallBegins}
 use Rattle.back_relation.specs.Ends.{WorldKept, Around, Transfers, done, left_by, full_there, stopped, few_turns, Returned, LeftCall, CallEnds, SparingCall}
+use Rattle.back_relation.proofs.Stops.{stopped_before}
 use Rattle.back_relation.proofs.Straight.{same_here, things_units}
 use Rattle.back_relation.proofs.Then.{call_then}
 use Rattle.back_relation.proofs.Worlds.{later_same}
@@ -141,7 +142,7 @@ module _ (setting : Setting) where
       })
   calls_recounted x a b h turns (left_by k) = left_by (record { transfer = transfers_recounted x a b h k.transfer; frame = k.frame })
   calls_recounted x a b h turns (full_there k) = full_there k
-  calls_recounted x a b h turns (stopped k) = stopped k
+  calls_recounted x a b h turns (stopped k) = stopped (stopped_before setting (omega (arith, h)) k)
   calls_recounted x a b h turns (few_turns k) = few_turns (omega (arith, k, turns))
 
   -- what is charged some units comes to what it comes to before them

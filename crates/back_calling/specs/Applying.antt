@@ -69,7 +69,7 @@ module _ (setting : Setting) where
   abbrev pub LawOfFormLevels : Type 0
   LawOfFormLevels =
       (k credit : ℕ) (a : Start setting) (d t : ℕ) (f : FlatState → FlatEvaluated) (next : Next)
-      → IsPlaced setting → level_words ≤ a.n → a.d ≤ t → t < length a.regs → FlatGrown a.z (f a.z).state → ((g : Registers) (x : MidState) → Grown x (next g x).state)
+      → IsPlaced setting → level_words ≤ a.n → a.d ≤ t → t < length a.regs → judging_cost ≤ credit → FlatGrown a.z (f a.z).state → ((g : Registers) (x : MidState) → Grown x (next g x).state)
       → ((j : ℕ) → k ≡ suc j → (word : ℕ) (y' : MidState) → ReachedFrom setting judging_cost a t a.w a.z (slice_set a.regs t (Some word)) y' → (SiteStored setting a.around a.y → SiteStored setting a.around y')
       → EndsFrom setting credit a d (f a.z) (next (slice_set a.regs t (Some word)) y'))
       → EndsFrom setting credit a d (descend (below_at setting k) f a.around a.z)

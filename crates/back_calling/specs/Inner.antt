@@ -76,7 +76,7 @@ module _ (setting : Setting) where
       (y : MidState) (regs : Registers) (r : FlatEvaluated) (next : Next)
       → WordsIn regs arguments ws → Things setting w z y → m ≤ turns → most + call_cost arguments + c2 ≤ credit → FlatGrown z r.state
       → ((g : Registers) (x : MidState) → Grown x (next g x).state)
-      → Ends setting
+      → Ends setting most
       (Looks setting k turns rs valid w around z (mid_charged (call_cost arguments) y) most word (called c number ws (mid_charged (call_cost arguments) y)))
       ⊥ turns z (mid_charged (call_cost arguments) y) (gives nil z) (called c number ws (mid_charged (call_cost arguments) y))
       → (WorldKept setting w w z z y (called c number ws (mid_charged (call_cost arguments) y)).state
@@ -89,8 +89,8 @@ module _ (setting : Setting) where
   abbrev pub LawOfFormLooking : Type 0
   LawOfFormLooking =
       (c : Context) (a : Start setting) (k d t number most word credit : ℕ) (arguments ws : List ℕ) (r : FlatEvaluated) (next : Next)
-      → a.d ≤ t → t < length a.regs → WordsIn a.regs arguments ws → FlatGrown a.z r.state → ((g : Registers) (x : MidState) → Grown x (next g x).state)
-      → Ends setting
+      → a.d ≤ t → t < length a.regs → most + call_cost arguments ≤ credit → WordsIn a.regs arguments ws → FlatGrown a.z r.state → ((g : Registers) (x : MidState) → Grown x (next g x).state)
+      → Ends setting most
       (Looks setting k a.turns a.rs a.valid a.w a.around a.z (mid_charged (call_cost arguments) a.y) most word
       (called c number ws (mid_charged (call_cost arguments) a.y)))
       ⊥ a.turns a.z (mid_charged (call_cost arguments) a.y) (gives nil a.z) (called c number ws (mid_charged (call_cost arguments) a.y))

@@ -72,7 +72,7 @@ module _ (setting : Setting) where
   abbrev pub MainDoes : (k turns number : ℕ) → FlatForm → Type 0
   MainDoes k turns number f =
       (n : ℕ) (w : World) (z : FlatState) (y : MidState) → slice_get setting.program.main number ≡ Some f → main_reserve ≤ n → MainBegins n w z y
-      → Ends setting
+      → Ends setting main_credit
       (MainReturned n main_credit (charged 1 z) y (mean_main setting.names setting.program setting.limit k f z)
       (called (code_at setting k turns) (mains_from setting.names setting.at setting.program + number) [] y))
       (Unhandled main_credit (charged 1 z) y (mean_main setting.names setting.program setting.limit k f z)

@@ -65,7 +65,7 @@ module _ (setting : Setting) where
   -- **a program and the run of its code**: it halts as it ends with a value, it ends unhandled as it does, or it stops before
   abbrev pub RunEnds : List ℕ → (k : ℕ) → MidState → Type 0
   RunEnds input k y =
-      Ends setting (Halted (at_start input) y (meant_by input k) (run k y)) (Unhandled setting start_credit (at_start input) y (meant_by input k) (run k y))
+      Ends setting start_credit (Halted (at_start input) y (meant_by input k) (run k y)) (Unhandled setting start_credit (at_start input) y (meant_by input k) (run k y))
       setting.turns_each (at_start input) y (meant_by input k) (run k y)
 
   -- **what the run does**, in words of the meaning of programs, where there are turns enough
@@ -117,8 +117,11 @@ module _ (setting : Setting) where
       pub printed_all : IsReached code_end → IsPrefix the_meaning.printed (run k y).state.printed
       -- there is no room only where the words that are charged pass the limit
       pub room : (m asked left_then : ℕ) → setting.limit ≡ words m → code_end ≡ mid.no_room asked left_then → IsFullEnd the_meaning.end
-      -- it costs no more than its units pay
+      -- it costs no more than its units pay, where the end was reached, and where the code stopped before an end of the program's own
       pub cost : IsReached code_end → (((asked left_then : ℕ) → the_meaning.end ≡ ended_full asked left_then → ⊥)) → (run k y).state.cost ≤ bound the_meaning.units
+      pub paid :
+          (the_meaning.end ≡ ended_more → ⊥) → ((asked left_then : ℕ) → the_meaning.end ≡ ended_full asked left_then → ⊥)
+          → (run k y).state.cost ≤ bound the_meaning.units
       -- fewer than 2 ^ 32 serial numbers were drawn; exit 0 has none
       pub serials :
           IsReached code_end → ((asked left_then : ℕ) → the_meaning.end ≡ ended_full asked left_then → ⊥)

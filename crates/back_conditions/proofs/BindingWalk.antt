@@ -33,6 +33,7 @@ use Rattle.back_relation.specs.StackWords.{BindingsAt}
 use Rattle.back_relation.specs.Things.{Things}
 use Rattle.back_relation.specs.RoutineClaims.{PlaceOfDynamic, Looks}
 use Rattle.back_relation.specs.Room.{looking_words}
+use Rattle.back_relation.proofs.Stops.{stopped_less}
 use Rattle.back_conditions.specs.Looking.{LooksAnywhere, binding_under, PlaceOf, binding_most, LawOfBindings, LawOfBindingClaims}
 use Rattle.back_conditions.proofs.Counting.{IsNone, Differ, Below, few_below}
 use Rattle.back_conditions.proofs.Entering.{with_frame_of, BodyLooks, looks_up}
@@ -346,7 +347,7 @@ bindings_law setting k turns rs valid w around z y room placed t around_stands n
     looks : LooksAnywhere setting k turns rs valid w around z y room (binding_most (text setting.names n) around.bindings) (binding_routine setting.at) (dynamic_address setting.at n ∷ []) (value_address (dynamic_address setting.at n) f.to (binding_under (text setting.names n) around.bindings))
     looks =
         looks_up setting k turns rs valid w around z y room (binding_most (text setting.names n) around.bindings) (binding_routine setting.at)
-        (dynamic_address setting.at n ∷ []) _ (given setting) (routine_used setting 18 (given setting) placed refl) refl refl (given_small setting)
+        (dynamic_address setting.at n ∷ []) _ (given setting) (routine_used setting 18 (given setting) placed refl) refl refl (given_small setting) (omega arith)
         (λ m frame left_turns begins some.
         ⊎_elim (λ less. let most = turns_few (text setting.names n) around.bindings in inr (omega (arith, less, most, few, left_turns)))
         (λ enough. inl (body_walks setting placed w z y n has k m frame around_stands.bindings_cell around.bindings t around_stands.bindings_word f some enough))
@@ -364,8 +365,10 @@ binding_claims_law setting k turns rs valid w around z y placed t around_stands 
 
     more :
         (address : ℕ) {q : MidOutcome}
-        → Ends setting (Looks setting k turns rs valid w around z y (binding_most (text setting.names n) around.bindings) address q) ⊥ turns z y (gives nil z) q
-        → Ends setting (Looks setting k turns rs valid w around z y (150 + 100 * passed (is_named (text setting.names n)) around.bindings) address q) ⊥ turns z y (gives nil z) q
+        → Ends setting (binding_most (text setting.names n) around.bindings)
+        (Looks setting k turns rs valid w around z y (binding_most (text setting.names n) around.bindings) address q) ⊥ turns z y (gives nil z) q
+        → Ends setting (150 + 100 * passed (is_named (text setting.names n)) around.bindings)
+        (Looks setting k turns rs valid w around z y (150 + 100 * passed (is_named (text setting.names n)) around.bindings) address q) ⊥ turns z y (gives nil z) q
     more address (done l) =
         done (record {
           end = l.end;
@@ -374,5 +377,5 @@ binding_claims_law setting k turns rs valid w around z y placed t around_stands 
         })
     more address (left_by l) = left_by l
     more address (full_there l) = full_there l
-    more address (stopped l) = stopped l
+    more address (stopped l) = stopped (stopped_less setting (omega arith) l)
     more address (few_turns l) = few_turns l

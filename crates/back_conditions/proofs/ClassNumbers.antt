@@ -117,7 +117,7 @@ body_finds setting k n frame w z y v word t e some =
 pub class_numbers_law : LawOfClassNumbers
 class_numbers_law setting k turns rs valid w around z y room placed v word e =
     looks_up setting k turns rs valid w around z y room class_cost (class_routine setting.at) (word ∷ []) (4 * class_of z.state v) (given setting)
-    (routine_used setting 20 (given setting) placed refl) refl refl (given_small setting)
+    (routine_used setting 20 (given setting) placed refl) refl refl (given_small setting) (omega arith)
     (λ n frame few begins some. inl (body_finds setting k n frame w z y v word begins.things e some))
 
 pub class_claims_law : LawOfClassClaims

@@ -235,7 +235,7 @@ dynamic_lets_law setting k turns ds body placed values_do body_does rs valid s d
         (with_block e (binding_words * count_dynamics ds) d
         (code_of (head setting placed a k s.keeps_method ds vs ws many of_values held stands.placed.0 body_steps ++ (body_steps ++ tail setting placed a bindings_address (e + 1) (e + 2)))) (code_of [])) g v))
         (lends setting placed a k e (binding_words * count_dynamics ds) bindings_address (e + 1) (e + 2) (words_for setting.names setting.program body) (100 * (1 + count_dynamics ds))
-        (head setting placed a k s.keeps_method ds vs ws many of_values held stands.placed.0 body_steps) body_steps (omega (arith, words)) (next_grows vs z')
+        (head setting placed a k s.keeps_method ds vs ws many of_values held stands.placed.0 body_steps) body_steps (omega (arith, words)) (omega arith) (next_grows vs z')
         (λ some.
         opened setting placed a k s.keeps_method ds vs ws many of_values held stands.placed.0 body_steps some (omega (arith, fits, size))
         (subst (λ m. enough_for (of_code (code_of laid)) ≤ m) (sym size) (registers_front laid (ended ++ (body_steps ++ last)) (length regs) names_behind))

@@ -13,6 +13,7 @@ use Rattle.mid_code.specs.Arena.{left, word_at}
 use Rattle.mid_code.specs.Meaning.{Task, enter, turns, levels, count}
 use Rattle.mid_code.specs.MidCode.{code_of}
 use Rattle.mid_code.specs.State.{Registers, first_registers, MidState, MidOutcome, returns, ends, with_some}
+use Rattle.mid_code.specs.Costs.{entry_cost}
 use Rattle.mid_arena.specs.Places.{of_other}
 use Rattle.mid_arena.proofs.Doing.{paid}
 use Rattle.mid_arena.proofs.Growing.{changes_of_growing, spot_below}
@@ -111,17 +112,17 @@ frame_left (words k) n frame z y h room within few m e = omega (arith, h, room, 
 
 module _ (setting : Setting) (k turns_left : ℕ) (rs valid : List Standing) (w : World) (around : DynamicContext) (z : FlatState) (y : MidState) where
   abbrev Reached : (most word : ℕ) → MidOutcome → Type 0
-  Reached most word q = Ends setting (Looks setting k turns_left rs valid w around z y most word q) ⊥ turns_left z y (gives nil z) q
+  Reached most word q = Ends setting most (Looks setting k turns_left rs valid w around z y most word q) ⊥ turns_left z y (gives nil z) q
 
   abbrev below : Task → MidState → MidOutcome
   below = levels setting.procedures setting.turns_each k
 
   -- its procedure is entered
   enters_so :
-      (room most : ℕ) (ws : List ℕ) (word n : ℕ) (p : MidProcedure) → length ws ≡ p.parameters → p.frame ≤ room → CallBegins setting rs valid room w around z y
+      (room most : ℕ) (ws : List ℕ) (word n : ℕ) (p : MidProcedure) → length ws ≡ p.parameters → p.frame ≤ room → entry_cost p.parameters ≤ most → CallBegins setting rs valid room w around z y
       → (p.frame ≤ left y.arena → BodyLooks setting k n p ws word most y ⊎ (turns_left ≤ length y.arena.memory))
       → Reached most word (turns setting.procedures below (suc n) (enter p ws) y)
-  enters_so room most ws word n p many small begins body = ⊎_elim without with_room (cases_lt (left y.arena) p.frame)
+  enters_so room most ws word n p many small cheap begins body = ⊎_elim without with_room (cases_lt (left y.arena) p.frame)
     where
       printed : IsPrefix y.printed z.state.printed
       printed = subst (λ ps. IsPrefix ps z.state.printed) (sym begins.things.represents.printed) (same_prefix z.state.printed)
@@ -135,7 +136,7 @@ module _ (setting : Setting) (k turns_left : ℕ) (rs valid : List Standing) (w 
       without : left y.arena < p.frame → Reached most word (turns setting.procedures below (suc n) (enter p ws) y)
       without few =
           subst (λ q. Reached most word q) (sym (enters_wanting {procedures = setting.procedures} {below = below} {n = n} {p = p} {ws = ws} {z = y} many few).same)
-          (stopped (record { because = (ended few setting.limit refl, few); printed = printed }))
+          (stopped (record { because = (ended few setting.limit refl, few); printed = printed; paid = λ goes. omega (arith, cheap) }))
 
       looks : p.frame ≤ left y.arena → BodyLooks setting k n p ws word most y → Reached most word (turns setting.procedures below (suc n) (enter p ws) y)
       looks some b =
@@ -153,12 +154,12 @@ module _ (setting : Setting) (k turns_left : ℕ) (rs valid : List Standing) (w 
   -- **a routine that only looks**: its body returns the word, or there are few turns
   pub looks_up :
       (room most number : ℕ) (ws : List ℕ) (word : ℕ) (given : MidProcedure) (u : Used given setting.procedures number) → given.counted ≡ Turn
-      → length ws ≡ given.parameters → given.frame ≤ looking_words
+      → length ws ≡ given.parameters → given.frame ≤ looking_words → entry_cost given.parameters ≤ most
       → ((n frame : ℕ) → turns_left ≡ suc n → CallBegins setting rs valid room w around z y → frame ≤ left y.arena
       → BodyLooks setting k n (with_frame_of frame given) ws word most y ⊎ (turns_left ≤ length y.arena.memory))
       → LooksAnywhere setting k turns_left rs valid w around z y room most number ws word
   unfolding turns with_some
-  looks_up room most number ws word given u counted many small body enough begins = by turns_left refl
+  looks_up room most number ws word given u counted many small cheap body enough begins = by turns_left refl
     where
       p : MidProcedure
       p = with_frame_of u.used.frame given
@@ -174,4 +175,4 @@ module _ (setting : Setting) (k turns_left : ℕ) (rs valid : List Standing) (w 
       by zero e = few_turns (omega (arith, e))
       by (suc n) e =
           subst (λ q. Reached most word q) (sym (entering ∙ ap (λ m. turns setting.procedures below m (enter p ws) y) e))
-          (enters_so room most ws word n p many (omega (arith, small, u.within.frame, enough)) begins (λ some. body n u.used.frame e begins some))
+          (enters_so room most ws word n p many (omega (arith, small, u.within.frame, enough)) cheap begins (λ some. body n u.used.frame e begins some))

@@ -121,7 +121,7 @@ module _ (setting : Setting) (placed : IsPlaced setting) (k t raise_credit : ℕ
           omega (arith, low),
           failing_runs room,
         ))
-        (λ wants. ((Some class ∷ None ∷ Some (4 * class) ∷ Some 3 ∷ None ∷ []), record y { cost = y.cost + 6 + 10 + 6 + 20 }, failing_wants wants, refl))
+        (λ wants. ((Some class ∷ None ∷ Some (4 * class) ∷ Some 3 ∷ None ∷ []), record y { cost = y.cost + 6 + 10 + 6 + 20 }, failing_wants wants, refl, omega arith))
 
   -- ---- a class with one slot
 
@@ -157,7 +157,7 @@ module _ (setting : Setting) (placed : IsPlaced setting) (k t raise_credit : ℕ
         condition_comes setting placed k t raise_credit 0 rs valid w around raises z y begins site class (v ∷ []) (v_word ∷ []) is (of_value, tt) with_q
         (printed_more setting k t (code_of (failing_with_code setting.at)) (Some class ∷ Some v_word ∷ None ∷ None ∷ None ∷ []) y)
         (λ room. ((Some class ∷ Some v_word ∷ Some 2 ∷ Some (y.arena.heap_to + 2) ∷ Some nil_word ∷ []), with_cost, (refl, (refl, tt)), omega arith, omega (arith, low), with_runs cx setting.at y heap_small arena_there.aligned arena_there.heap class v_word one_word is.high room (one_loaded room)))
-        (λ wants. ((Some class ∷ Some v_word ∷ Some (4 * class) ∷ Some 4 ∷ None ∷ []), record y { cost = y.cost + 6 + 10 + 6 + 20 }, with_wants wants, refl))
+        (λ wants. ((Some class ∷ Some v_word ∷ Some (4 * class) ∷ Some 4 ∷ None ∷ []), record y { cost = y.cost + 6 + 10 + 6 + 20 }, with_wants wants, refl, omega arith))
 
   -- ---- a domain error
 
@@ -205,7 +205,7 @@ module _ (setting : Setting) (placed : IsPlaced setting) (k t raise_credit : ℕ
         (of_value, (expected_there.of_value, tt)) domain_q
         (printed_more setting k t (code_of (domain_code setting.at)) (Some v_word ∷ Some expected ∷ None ∷ None ∷ None ∷ []) y)
         (λ room. ((Some v_word ∷ Some expected ∷ Some 2 ∷ Some (y.arena.heap_to + 2) ∷ Some nil_word ∷ []), domain_cost, (refl, (refl, tt)), omega arith, omega (arith, low), domain_runs cx setting.at y heap_small arena_there.aligned arena_there.heap v_word expected error_word expected_there.word known room (error_loaded room) (expected_loaded room)))
-        (λ wants. ((Some v_word ∷ Some expected ∷ Some 116 ∷ Some 5 ∷ None ∷ []), record y { cost = y.cost + 6 + 6 + 20 }, domain_wants wants, refl))
+        (λ wants. ((Some v_word ∷ Some expected ∷ Some 116 ∷ Some 5 ∷ None ∷ []), record y { cost = y.cost + 6 + 6 + 20 }, domain_wants wants, refl, omega arith))
 
 -- a unit is left over
 from_unit :
@@ -220,7 +220,7 @@ pub failing_does :
 unfolding failing_code
 failing_does setting placed k raise_credit low turns rs valid w around raises z y class is site begins =
     routine_enters setting k (failing_routine setting.at) passing_frame 1 (failing_code setting.at) used (class ∷ []) refl y turns begins.things.represents.printed
-    (grown_later (signal_later setting k class [] around z)) (let all = memory_holds setting begins.things in omega (arith, all)) begins.room begins.things.within_limit (omega arith) by
+    (grown_later (signal_later setting k class [] around z)) (let all = memory_holds setting begins.things in omega (arith, all)) begins.room begins.things.within_limit (omega arith) (omega arith) by
   where
     used : UsedAt setting.procedures (failing_routine setting.at) (framed passing_frame (procedure_with Turn 1 (failing_code setting.at)))
     used = routine_used setting placed 7 (framed passing_frame (procedure_with Turn 1 (failing_code setting.at))) refl
@@ -244,7 +244,7 @@ pub failing_with_does :
 unfolding failing_with_code
 failing_with_does setting placed k raise_credit low turns rs valid w around raises z y class v word of_value is site begins =
     routine_enters setting k (failing_with_routine setting.at) passing_frame 2 (failing_with_code setting.at) used (class ∷ word ∷ []) refl y turns begins.things.represents.printed
-    (grown_later (signal_later setting k class (v ∷ []) around z)) (let all = memory_holds setting begins.things in omega (arith, all)) begins.room begins.things.within_limit (omega arith) by
+    (grown_later (signal_later setting k class (v ∷ []) around z)) (let all = memory_holds setting begins.things in omega (arith, all)) begins.room begins.things.within_limit (omega arith) (omega arith) by
   where
     used : UsedAt setting.procedures (failing_with_routine setting.at) (framed passing_frame (procedure_with Turn 2 (failing_with_code setting.at)))
     used = routine_used setting placed 8 (framed passing_frame (procedure_with Turn 2 (failing_with_code setting.at))) refl
@@ -269,7 +269,7 @@ unfolding domain_code
 domain_does setting placed k raise_credit low turns rs valid w around raises z y v expected word known of_value site begins =
     routine_enters setting k (domain_routine setting.at) passing_frame 2 (domain_code setting.at) used (word ∷ expected ∷ []) refl y turns begins.things.represents.printed
     (grown_later (signal_later setting k domain_error_class (v ∷ class_value setting.names (tables setting.program) expected ∷ []) around z)) (let all = memory_holds setting begins.things in omega (arith, all)) begins.room
-    begins.things.within_limit (omega arith) by
+    begins.things.within_limit (omega arith) (omega arith) by
   where
     used : UsedAt setting.procedures (domain_routine setting.at) (framed passing_frame (procedure_with Turn 2 (domain_code setting.at)))
     used = routine_used setting placed 9 (framed passing_frame (procedure_with Turn 2 (domain_code setting.at))) refl

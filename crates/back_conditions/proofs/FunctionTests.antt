@@ -171,7 +171,7 @@ body_says setting k n frame w z y v word t e some =
 pub function_tests_law : LawOfFunctionTests
 function_tests_law setting k turns rs valid w around z y room placed v word e =
     looks_up setting k turns rs valid w around z y room is_function_cost (is_function_routine setting.at) (word ∷ []) (told_word (is_function (fetch z.state v))) (given setting)
-    (routine_used setting 19 (given setting) placed refl) refl refl (given_small setting)
+    (routine_used setting 19 (given setting) placed refl) refl refl (given_small setting) (omega arith)
     (λ n frame few begins some. inl (body_says setting k n frame w z y v word begins.things e some))
 
 pub function_claims_law : LawOfFunctionClaims

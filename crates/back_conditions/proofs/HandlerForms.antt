@@ -91,7 +91,7 @@ module _ (setting : Setting) (placed : IsPlaced setting) (k : ℕ) (a : Start se
         subst (λ q. EndsAt setting (routine_credit + 84) a r q)
         (sym
         (single_step c (with_block (a.d + 1) handler_words a.d (code_of (handler_steps a.d ++ (body ++ tail setting placed a handlers_address (a.d + 2) (a.d + 3)))) (code_of [])) a.regs a.y))
-        (lends setting placed a k (a.d + 1) handler_words handlers_address (a.d + 2) (a.d + 3) m (routine_credit + 84) (handler_steps a.d) body (omega (arith, room)) grown
+        (lends setting placed a k (a.d + 1) handler_words handlers_address (a.d + 2) (a.d + 3) m (routine_credit + 84) (handler_steps a.d) body (omega (arith, room)) (omega arith) grown
         (λ some. handler_opened setting placed a k h word held is body some fits m (routine_credit + 84) room (omega arith) (λ regs y begins many. body_does _ regs y begins many)))
 
 -- one or the other
@@ -192,7 +192,7 @@ module _ (setting : Setting) (placed : IsPlaced setting) (k : ℕ) (a : Start se
   handled =
       subst (λ q. EndsAt setting handled_credit a (handler_meant h a.around a.z) q) (sym (step_then (code_at setting k a.turns) (call (a.d + 1) (is_function_routine setting.at) (a.d ∷ [])) rest a.regs a.y))
       (form_looking_law setting (code_at setting k a.turns) a k a.d (a.d + 1) (is_function_routine setting.at) is_function_cost told handled_credit (a.d ∷ []) (word ∷ []) (handler_meant h a.around a.z)
-      (λ g v. exec (code_at setting k a.turns) (code_of rest) g v) (omega arith) (omega (arith, fits)) (held, tt) (handler_grows h a.around a.z)
+      (λ g v. exec (code_at setting k a.turns) (code_of rest) g v) (omega arith) (omega (arith, fits)) (omega arith) (held, tt) (handler_grows h a.around a.z)
       (λ g v. code_grows setting k a.turns (code_of rest) g v)
       (function_tests_law setting k a.turns a.rs a.valid a.w a.around a.z paid.y a.n placed h word is (omega (arith, some_room)) paid.begins.call)
       (λ x.

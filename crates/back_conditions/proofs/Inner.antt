@@ -176,7 +176,7 @@ module _ (setting : Setting) (placed : IsPlaced setting) (k t : ℕ) (rs valid :
   regs r5 r6 r16 r17 = regs_inside c_word mark_word r2 cell site.0 at current link bindings drawn r5 r6 r16 r17
 
   abbrev pub InsideEnds : FlatEvaluated → MidOutcome → Type 0
-  InsideEnds r q = Ends setting ⊥ (LeftInside setting rs valid w around z y regs number r q) t z y r q
+  InsideEnds r q = Ends setting (inside_credit + unit_cost) ⊥ (LeftInside setting rs valid w around z y regs number r q) t z y r q
 
   abbrev n : ℕ
   n = length y.arena.blocks
@@ -399,7 +399,8 @@ module _ (setting : Setting) (placed : IsPlaced setting) (k t : ℕ) (rs valid :
     failed fails so = by (fails rs valid w3 ra.state y3 site3 begins3)
       where
         by :
-            Ends setting (Returned setting making_credit w3 (charged 1 ra.state) y3 rf cf) (LeftCall setting making_credit rs valid w3 around (charged 1 ra.state) y3 rf cf) t ra.state y3 rf cf
+            Ends setting (making_credit + unit_cost) (Returned setting making_credit w3 (charged 1 ra.state) y3 rf cf)
+            (LeftCall setting making_credit rs valid w3 around (charged 1 ra.state) y3 rf cf) t (charged 1 ra.state) y3 rf cf
             → Whole (mid_go_on (mid_called cf 6 regs5) leaving)
         by (done f) = absurd (so.never x.result x.outcome f.result f.outcome)
         by (left_by l) = failed_left l
@@ -412,7 +413,7 @@ module _ (setting : Setting) (placed : IsPlaced setting) (k t : ℕ) (rs valid :
             (sym
             (ap (λ q. mid_go_on q leaving) (called_ends cf 6 regs5 cf.end (stopped_passes setting rf cf.end f.because) refl)
             ∙ go_on_last cf.end (ends cf.end regs5 cf.state) leaving refl (stopped_last setting rf cf.end f.because)))
-            (stopped (record { because = f.because; printed = f.printed }))
+            (stopped (record { because = f.because; printed = f.printed; paid = λ ended. let paid = around_paid.paid in omega (arith, f.paid ended, paid) }))
         by (few_turns f) = let more = up in let size = world3.same_size in few_turns (omega (arith, f, more, size))
 
   -- ---- **in all cases**
@@ -477,7 +478,11 @@ module _ (setting : Setting) (placed : IsPlaced setting) (k t : ℕ) (rs valid :
         by (stopped f) =
             let g : FlatGrown ra.state r1.state = then_grown ra goes (λ v s. grown_later (signal_later setting k control_error_class [] around s)) in
             subst (λ q. InsideEnds r1 q) (sym (code_is ∙ stop_code f.because))
-            (stopped (record { because = because_then setting ra goes came.end g f.because; printed = both_prefix f.printed g.printed }))
+            (stopped (record {
+              because = because_then setting ra goes came.end g f.because;
+              printed = both_prefix f.printed g.printed;
+              paid = λ ended. let paid = f.paid (λ none. ended (because_then setting ra goes no_level g none)) in omega (arith, paid, g.units);
+            }))
         by (few_turns f) =
             let g : FlatGrown ra.state r1.state = then_grown ra goes (λ v s. grown_later (signal_later setting k control_error_class [] around s)) in
             let size = (opened setting placed k t rs valid w around z y things ar c c_word of_condition room).world.same_size in

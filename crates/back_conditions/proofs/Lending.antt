@@ -13,6 +13,7 @@ use Rattle.mid_code.specs.MidCode.{MidCode, with_block, no_step, code_of}
 use Rattle.mid_code.specs.State.{Registers, falls, ends, MidState, landed, jumped}
 use Rattle.mid_code.specs.State.{go_on as mid_go_on}
 use Rattle.mid_code.proofs.Growth.{exec_grown, levels_grow, turns_grow}
+use Rattle.mid_code.specs.Costs.{record_cost}
 use Rattle.mid_arena.proofs.Running.{RunsTo, parts_then, in_two_parts}
 use Rattle.back_lowering.specs.Steps.{Steps}
 use Rattle.back_relation.specs.Setting.{Setting}
@@ -54,11 +55,11 @@ module _ (setting : Setting) (placed : IsPlaced setting) (a : Start setting) whe
 
   -- **a block is lent**
   pub lends :
-      (k : ℕ) (e count slot keeper d n credit : ℕ) (head body : Steps) {r : FlatEvaluated} → count + 2 ≤ a.n → FlatGrown a.z r.state
+      (k : ℕ) (e count slot keeper d n credit : ℕ) (head body : Steps) {r : FlatEvaluated} → count + 2 ≤ a.n → record_cost ≤ credit → FlatGrown a.z r.state
       → (count + 2 ≤ left a.y.arena → Opened (code_at setting k a.turns) e count slot keeper d n credit head body r)
       → EndsAt setting credit a r
       (exec_step (code_at setting k a.turns) (with_block e count a.d (code_of (head ++ (body ++ tail setting placed a slot keeper d))) (code_of [])) a.regs a.y)
-  lends k e count slot keeper d n credit head body {r} room grown opened = ⊎_elim without lent (cases_lt (left a.y.arena) (count + 2))
+  lends k e count slot keeper d n credit head body {r} room cheap grown opened = ⊎_elim without lent (cases_lt (left a.y.arena) (count + 2))
     where
       c : Context
       c = code_at setting k a.turns
@@ -72,6 +73,7 @@ module _ (setting : Setting) (placed : IsPlaced setting) (a : Start setting) whe
           (stopped (record {
             because = (room_ended setting.limit a.n count r.outcome refl room a.begins.call.room a.begins.call.things.within_limit few, few);
             printed = subst (λ ps. IsPrefix ps r.state.state.printed) (sym a.begins.call.things.represents.printed) grown.printed;
+            paid = λ ended. omega (arith, cheap, grown.units);
           }))
 
       grows : (code : MidCode) (g : Registers) (v : MidState) → Grown v (exec c code g v).state

@@ -45,11 +45,14 @@ use Rattle.back_relation.proofs.Growth.{grown_later}
 use Rattle.back_relation.proofs.Standing.{world_behind, world_kept_behind, control_behind}
 use Rattle.back_relation.specs.RoutineClaims.{IsBuiltInCondition}
 use Rattle.back_exits.proofs.Entries.{UsedAt, routine_used}
-use Rattle.back_exits.proofs.LeavingRoutine.{signal_later, begins_charged}
+use Rattle.back_exits.proofs.LeavingRoutine.{signal_later, begins_charged, tasks_below}
 use Rattle.back_exits.proofs.Points.{point_begins}
 use Rattle.back_exits.proofs.Returning.{HoldAll, call_behind, returning_comes}
 use Rattle.back_conditions.specs.Within.{RaisesAt, making_spare}
 use Rattle.back_conditions.proofs.Conditions.{is_class, state_made, places_made, meaning_made, made_behind, pointer_is, made_charged, word_made_before}
+use Rattle.flat_laws.specs.FlatLater.{FlatLater}
+use Rattle.flat_laws.proofs.Applied.{signals_under}
+use Rattle.flat_laws.proofs.Later.{later_kept}
 
 pub raise_used : (setting : Setting) → IsPlaced setting → UsedAt setting.procedures (raise_routine setting.at) (framed raise_frame (procedure_with Turn 2 (raise_code setting.at)))
 raise_used setting placed = routine_used setting placed 4 (framed raise_frame (procedure_with Turn 2 (raise_code setting.at))) refl
@@ -92,6 +95,18 @@ module _ (setting : Setting) (placed : IsPlaced setting) (k t raise_credit credi
       let low = is.low in
       let size = words_of_condition (tables setting.program) class (length vs) (is_condition_class (tables setting.program) things.represents.built_in class (omega (arith, low)) is.high) in
       ap (λ n. with_size n (has_room setting.limit (z.state.heap + z.state.stack + n + 0))) size
+
+  -- its words are charged
+  charged_at_least :
+      has_room setting.limit (z.state.heap + z.state.stack + (3 + length vs) + 0) ≡ true → z.state.units + 3 ≤ r.state.state.units
+  charged_at_least fits =
+      subst (λ (p : FlatEvaluated). z.state.units + 3 ≤ p.state.state.units) (sym (meant ∙ ap (with_size (3 + length vs)) fits))
+      (let later = (signals_under {R = FlatLater} {k = later_kept} (context_at setting k) (tasks_below setting k) around.handlers (object (length z.state.store)) nil around stored_at).grows in
+      let up = later.later.units in
+      omega (arith, up))
+    where
+      stored_at : FlatState
+      stored_at = record z { state = meaning.stored (instance class (map (λ v. Some v) vs) nil) (meaning.charged (3 + length vs + 0) (meaning.with_words (3 + length vs) 0 z.state)) }
 
   -- there is room for it
   module _ (room : 3 + length vs ≤ left y.arena) (fits : has_room setting.limit (z.state.heap + z.state.stack + (3 + length vs) + 0) ≡ true) (cost : ℕ) where
@@ -145,12 +160,13 @@ module _ (setting : Setting) (placed : IsPlaced setting) (k t raise_credit credi
         (pointer_is setting things class class_word vs ws is class_there.of_value are room (3 + length vs) (3 + length vs + 0)) refl site2 (begins_charged setting 52 begins2))))
 
   -- there is no room in the code
-  wanting : (regs : Registers) (x : MidState) → left y.arena < 3 + length vs → has_room setting.limit (z.state.heap + z.state.stack + (3 + length vs) + 0) ≡ true → x.printed ≡ y.printed
+  wanting : (regs : Registers) (x : MidState) → left y.arena < 3 + length vs → has_room setting.limit (z.state.heap + z.state.stack + (3 + length vs) + 0) ≡ true → x.printed ≡ y.printed → x.cost ≤ y.cost + unit_cost
       → Comes (ends (no_room (3 + length vs) (left y.arena)) regs x)
-  wanting regs x wants fits same =
+  wanting regs x wants fits same cheap =
       stopped (record {
         because = (limited setting.limit fits begins.room things.within_limit, wants);
         printed = subst (λ (p : List ℕ). IsPrefix p r.state.state.printed) (sym (same ∙ things.represents.printed)) (grown_later (signal_later setting k class vs around z)).printed;
+        paid = λ ended. let up = charged_at_least fits in omega (arith, cheap, up);
       })
     where
       limited : (l : Limit) → has_room l (z.state.heap + z.state.stack + (3 + length vs) + 0) ≡ true → RoomFor l (raise_words + words_for_handler * length around.handlers) z.state y → WithinLimit l z.state
@@ -177,11 +193,11 @@ module _ (setting : Setting) (placed : IsPlaced setting) (k t raise_credit credi
       → ((room : 3 + length vs ≤ left y.arena) → (regs : Registers) × (cost : ℕ) × HoldAll (3 ∷ 4 ∷ []) regs ((y.arena.heap_to + 2) ∷ nil_word ∷ []) × (3 < length regs)
       × (cost + 66 + raise_credit + unit_cost ≤ y.cost + unit_cost * (3 + length vs) + credit)
       × (q ≡ exec cx (code_of (returning setting.at 3 (raise_routine setting.at) (3 ∷ 4 ∷ []))) regs (state_made setting things class class_word vs ws is class_there.of_value are room cost)))
-      → (left y.arena < 3 + length vs → (regs : Registers) × (x : MidState) × (q ≡ ends (no_room (3 + length vs) (left y.arena)) regs x) × (x.printed ≡ y.printed))
+      → (left y.arena < 3 + length vs → (regs : Registers) × (x : MidState) × (q ≡ ends (no_room (3 + length vs) (left y.arena)) regs x) × (x.printed ≡ y.printed) × (x.cost ≤ y.cost + unit_cost))
       → Comes q
   condition_comes q grown here none = by (has_room setting.limit (z.state.heap + z.state.stack + (3 + length vs) + 0)) refl (room_for (3 + length vs) y.arena)
     where
       by : (b : Bool) → has_room setting.limit (z.state.heap + z.state.stack + (3 + length vs) + 0) ≡ b → Room (3 + length vs) y.arena → Comes q
       by false e any = full_so q grown e
       by true e (is_left room) = let h = here room in subst (λ p. Comes p) (sym h.5) (raised room e h.1 h.0 h.2 h.3 h.4)
-      by true e (is_wanting wants) = let h = none wants in subst (λ p. Comes p) (sym h.2) (wanting h.0 h.1 wants e h.3)
+      by true e (is_wanting wants) = let h = none wants in subst (λ p. Comes p) (sym h.2) (wanting h.0 h.1 wants e h.3 h.4)

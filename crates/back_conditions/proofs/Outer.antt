@@ -6,13 +6,14 @@ use Rattle.lang_meaning.specs.Objects.{control_error_class}
 use Rattle.lang_meaning.specs.Prefixes.{IsPrefix}
 use Rattle.lang_meaning.specs.State.{DynamicContext, signal_exit, Landing, exit, Outcome, Limit, words, unlimited}
 use Rattle.lang_meaning.specs.Values.{Value}
+use Rattle.lang_meaning.specs.Counts.{unit_cost}
 use Rattle.flat_language.specs.FlatState.{FlatState, FlatEvaluated, charged, exit_made, gives, caught}
 use Rattle.flat_language.specs.FlatState.{landed_from as flat_landed_from}
 use Rattle.mid_code.specs.Arena.{Arena, Block, record_of, closed_record, left, stack_from, with_blocks, blocks_from, word_at}
 use Rattle.mid_code.specs.Law.{Grown}
 use Rattle.mid_code.specs.Meaning.{Context, exec, give_back, run_landing}
 use Rattle.mid_code.specs.MidCode.{with_block, return_word, code_of}
-use Rattle.mid_code.specs.State.{Registers, returns, cuts, falls, ends, MidState, MidOutcome, Next, jumped, landed, with_arena}
+use Rattle.mid_code.specs.State.{Registers, returns, cuts, falls, ends, MidState, MidOutcome, Next, jumped, landed, with_arena, no_level}
 use Rattle.mid_code.specs.State.{go_on as mid_go_on}
 use Rattle.mid_code.proofs.Growth.{go_on_grown, landed_grown, same_grown, exec_grown, levels_grow, turns_grow, after_inside_grown, run_landing_grown}
 use Rattle.mid_arena.proofs.Growing.{spot_stands}
@@ -180,7 +181,11 @@ module _ (setting : Setting) (placed : IsPlaced setting) (k t : ℕ) (rs valid :
         let more : z.state.exits + 1 ≤ r.state.state.exits = (let a = r1_grown.exits in let b = landed_grown_so.exits in omega (arith, a, b)) in
         subst (λ q. Whole r q)
         (sym (step_is ∙ ap code (lays_none setting placed k t rs valid w around z y things ar c mark h hs c_word mark_word of_condition of_mark handlers room r2 site.0 last rest)))
-        (stopped (record { because = omega (arith, drawn, count, more); printed = printed_before }))
+        (stopped (record {
+          because = omega (arith, drawn, count, more);
+          printed = printed_before;
+          paid = λ ended. let up = grown.units in omega (arith, up);
+        }))
 
     module _ (fewer : (things.serials.0 == 2 ^ 32 - 1) ≡ false) where
       abbrev o : Opened setting 6 w (w_laid setting placed k t rs valid w around z y things ar c mark h hs c_word mark_word of_condition of_mark handlers room fewer) z inner_state y
@@ -217,7 +222,7 @@ module _ (setting : Setting) (placed : IsPlaced setting) (k t : ℕ) (rs valid :
       inside_q = exec cx (code_of rest) (regs (Some handlers.0.word) None None None) yl
 
       abbrev Inside : FlatEvaluated → MidOutcome → Type 0
-      Inside p q = Ends setting ⊥ (LeftInside setting (record_new ∷ rs) (record_new ∷ valid) wl inner_around inner_state yl regs z.state.exits p q) t inner_state yl p q
+      Inside p q = Ends setting (inside_credit + unit_cost) ⊥ (LeftInside setting (record_new ∷ rs) (record_new ∷ valid) wl inner_around inner_state yl regs z.state.exits p q) t inner_state yl p q
 
       whole_is : exec cx (code_of whole) regs0 y ≡ code inside_q
       whole_is = step_is ∙ ap code (lays setting placed k t rs valid w around z y things ar c mark h hs c_word mark_word of_condition of_mark handlers room r2 site.0 fewer rest)
@@ -400,7 +405,13 @@ module _ (setting : Setting) (placed : IsPlaced setting) (k t : ℕ) (rs valid :
           (sym
           (ap (λ p. mid_go_on p ret) (stop_passes n after catch setting r1 inside_q inside_q.end refl f.because)
           ∙ go_on_last inside_q.end inside_q ret refl (stopped_last setting r1 inside_q.end f.because)))
-          (stopped (record { because = because_landed setting z.state.exits gives_there (λ v l s. same_flat s) r1 inside_q.end f.because; printed = both_prefix f.printed g.printed }))
+          (stopped (record {
+            because = because_landed setting z.state.exits gives_there (λ v l s. same_flat s) r1 inside_q.end f.because;
+            printed = both_prefix f.printed g.printed;
+            paid = λ ended.
+                let paid = f.paid (λ none. ended (because_landed setting z.state.exits gives_there (λ v l s. same_flat s) r1 no_level none)) in
+                omega (arith, paid, g.units);
+          }))
       ends_so (few_turns f) =
           let g = landed_grown_so in
           let size = o.world.same_size in
@@ -420,6 +431,7 @@ module _ (setting : Setting) (placed : IsPlaced setting) (k t : ℕ) (rs valid :
               wants,
             );
             printed = subst (λ ps. IsPrefix ps r1.state.state.printed) (sym things.represents.printed) r1_grown.printed;
+            paid = λ ended. let up = r1_grown.units in omega (arith, up);
           }))
 
       module _ (applies : FunctionsDo setting k t inner_around) (fails : FailsPaid setting k t inner_around) where
@@ -461,4 +473,8 @@ module _ (setting : Setting) (placed : IsPlaced setting) (k t : ℕ) (rs valid :
             (sym
             (step_then cx (with_block 8 record_words 6 (code_of inside_code) (code_of (record_landed 8 14))) (return_word 6 ∷ []) regs0 y
             ∙ ap (λ q. mid_go_on q ret) (record_wanting cx 8 record_words 6 (code_of inside_code) (code_of (record_landed 8 14)) regs0 y wants)))
-            (stopped (record { because = (room_wants setting.limit 8 r.outcome (omega arith) fewer_room things.within_limit wants, wants); printed = printed_before }))
+            (stopped (record {
+              because = (room_wants setting.limit 8 r.outcome (omega arith) fewer_room things.within_limit wants, wants);
+              printed = printed_before;
+              paid = λ ended. let up = grown.units in omega (arith, up);
+            }))

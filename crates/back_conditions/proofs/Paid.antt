@@ -1,9 +1,11 @@
 -- A control error, which leaves one of the units of its words over.
 use Rattle.std.proofs.Common.{◌≡◌, ℕ, suc, ◌+◌, ◌≤◌, Bool, true, false, List, [], ◌∷◌, length, refl, sym, ap, ◌∙◌, subst, arith}
 use Rattle.lang_meaning.specs.Objects.{control_error_class, instance}
-use Rattle.lang_meaning.specs.State.{DynamicContext, Outcome, value, exit, full, has_room, room_left}
+use Rattle.lang_meaning.specs.Prefixes.{IsPrefix}
+use Rattle.lang_meaning.specs.State.{DynamicContext, full, has_room, room_left}
 use Rattle.lang_meaning.specs.State as meaning
 use Rattle.lang_meaning.specs.Values.{nil, object}
+use Rattle.lang_meaning.specs.Counts.{unit_cost}
 use Rattle.flat_language.specs.FlatSignals.{signal}
 use Rattle.flat_language.specs.FlatState.{FlatState, FlatEvaluated, charged}
 use Rattle.flat_laws.specs.FlatLater.{FlatLater}
@@ -11,6 +13,7 @@ use Rattle.flat_laws.proofs.Applied.{signals_under}
 use Rattle.flat_laws.proofs.Later.{later_kept}
 use Rattle.mid_code.specs.declared.operation.Counted.TheVariants.{Turn}
 use Rattle.mid_code.specs.Arena.{left}
+use Rattle.mid_code.specs.Law.{Grown}
 use Rattle.mid_code.specs.Meaning.{exec, leaves}
 use Rattle.mid_code.specs.MidCode.{code_of}
 use Rattle.mid_code.specs.State.{MidState, MidOutcome}
@@ -28,6 +31,7 @@ use Rattle.back_relation.specs.Procedures.{called}
 use Rattle.back_relation.specs.Starts.{FlatGrown}
 use Rattle.back_relation.proofs.Growth.{grown_later}
 use Rattle.back_relation.proofs.Straight.{world_units, around_units}
+use Rattle.back_calling.proofs.Applied.{called_grows}
 use Rattle.back_exits.proofs.Bodies.{world_of, body_begins, body_leaves, laid_site}
 use Rattle.back_exits.proofs.Entries.{UsedAt, routine_used, routine_registers, laid_frame, routine_enters}
 use Rattle.back_exits.proofs.Frames.{memory_holds}
@@ -35,7 +39,7 @@ use Rattle.back_exits.proofs.LeavingRoutine.{tasks_below, control_error_is}
 use Rattle.back_exits.proofs.Points.{point_begins}
 use Rattle.back_exits.proofs.Within.{begins_less}
 use Rattle.back_conditions.specs.Within.{RaisesWithin, making_credit, making_spare}
-use Rattle.back_conditions.proofs.Failing.{failing_does, failing_comes}
+use Rattle.back_conditions.proofs.Failing.{failing_comes}
 use Rattle.back_conditions.proofs.Making.{meant, with_size}
 use Rattle.back_conditions.specs.Handled.{FailsPaid}
 
@@ -60,23 +64,22 @@ module _ (setting : Setting) (placed : IsPlaced setting) (k raise_credit : ℕ) 
   means = meant setting placed k 0 raise_credit 0 rs valid w around (raises 0 (omega arith)) z y begins_there site control_error_class [] [] control_error_is tt
 
   abbrev Paid : Type 0
-  Paid = Ends setting (Returned setting making_credit w (charged 1 z) y r q) (LeftCall setting making_credit rs valid w around (charged 1 z) y r q) turns z y r q
+  Paid = Ends setting (making_credit + unit_cost) (Returned setting making_credit w (charged 1 z) y r q) (LeftCall setting making_credit rs valid w around (charged 1 z) y r q) turns (charged 1 z) y r q
 
   -- there are no words in the meaning
   none_there : fits ≡ false → Paid
-  none_there e = by (failing_does setting placed k raise_credit low turns rs valid w around raises z y control_error_class control_error_is site begins)
+  none_there e =
+      full_there (record {
+        asked = 3 + 0;
+        left_then = room_left setting.limit (z.state.heap + z.state.stack);
+        outcome = ap (λ (p : FlatEvaluated). p.outcome) (means ∙ ap size_so e);
+        printed =
+            subst (λ (p : FlatEvaluated). IsPrefix p.state.state.printed q.state.printed) (sym (means ∙ ap size_so e))
+            (subst (λ ps. IsPrefix ps q.state.printed) begins.things.represents.printed (record { rest = grown.printed.0; is = sym grown.printed.1 }));
+      })
     where
-      outcome : r.outcome ≡ full (3 + 0) (room_left setting.limit (z.state.heap + z.state.stack))
-      outcome = ap (λ (p : FlatEvaluated). p.outcome) (means ∙ ap size_so e)
-
-      by : CallEnds setting making_credit (turns + making_spare) rs valid w around z y r q → Paid
-      by (done x) =
-          let no : full (3 + 0) (room_left setting.limit (z.state.heap + z.state.stack)) ≡ value x.result = sym outcome ∙ x.outcome in absurd (cc no)
-      by (left_by x) =
-          let no : full (3 + 0) (room_left setting.limit (z.state.heap + z.state.stack)) ≡ exit x.transfer.exit_number x.transfer.result x.transfer.landing = sym outcome ∙ x.transfer.outcome in absurd (cc no)
-      by (full_there x) = full_there x
-      by (stopped x) = stopped x
-      by (few_turns x) = few_turns (omega (arith, x))
+      grown : Grown y q.state
+      grown = called_grows setting k turns (failing_routine setting.at) (control_error_class ∷ []) y
 
   abbrev made : FlatState
   made = record z { state = meaning.stored (instance control_error_class [] nil) (meaning.charged (3 + 0) (meaning.with_words 3 0 z.state)) }
@@ -114,7 +117,7 @@ module _ (setting : Setting) (placed : IsPlaced setting) (k raise_credit : ℕ) 
       comes : CallEnds setting making_credit (turns + making_spare) rs valid w around (charged 1 z) y r q
       comes =
           routine_enters setting k (failing_routine setting.at) passing_frame 1 (failing_code setting.at) used (control_error_class ∷ []) refl y turns begins1.things.represents.printed grown
-          (let all = memory_holds setting begins1.things in omega (arith, all)) begins1.room begins1.things.within_limit (omega arith) entered
+          (let all = memory_holds setting begins1.things in omega (arith, all)) begins1.room begins1.things.within_limit (omega arith) (omega arith) entered
 
       by : CallEnds setting making_credit (turns + making_spare) rs valid w around (charged 1 z) y r q → Paid
       by (done x) = done x

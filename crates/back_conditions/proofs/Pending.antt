@@ -75,7 +75,7 @@ unfolding pending_code
 pending_does setting placed k spare credit few turns rs valid w around raises z y c condition at site begins =
     routine_enters setting k (pending_routine setting.at) passing_frame 0 (pending_code setting.at) used [] refl y turns begins.things.represents.printed
     (grown_later (signals_under {R = FlatLater} {k = later_kept} (context_at setting k) (tasks_below setting k) around.handlers c nil around z).grows)
-    (let all = memory_holds setting begins.things in omega (arith, all, few)) begins.room begins.things.within_limit (omega arith) by
+    (let all = memory_holds setting begins.things in omega (arith, all, few)) begins.room begins.things.within_limit (omega arith) (omega arith) by
   where
     used : UsedAt setting.procedures (pending_routine setting.at) (framed passing_frame (procedure_with Turn 0 (pending_code setting.at)))
     used = routine_used setting placed 6 (framed passing_frame (procedure_with Turn 0 (pending_code setting.at))) refl

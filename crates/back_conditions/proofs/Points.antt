@@ -138,7 +138,7 @@ module _ (setting : Setting) where
         ∙ step_then c (call t (binding_routine setting.at) (t ∷ [])) rest set (mid_charged 6 a.y)))
         (behind setting {c1 = 6} {c2 = 98 + 70 * sought a n + 46 + c2} a t low (reached_set setting a t t (dynamic_address setting.at n) 6 (omega arith) low (omega arith)) (omega (arith, enough)) (omega arith)
         (form_looking_law setting c b k a.d t (binding_routine setting.at) (98 + 70 * sought a n) address (98 + 70 * sought a n + 46 + c2) (t ∷ []) (dynamic_address setting.at n ∷ []) r
-        (λ g v. exec c (code_of rest) g v) low (omega (arith, there, size)) (register_here a.regs t (dynamic_address setting.at n) there, tt) grown
+        (λ g v. exec c (code_of rest) g v) low (omega (arith, there, size)) (omega arith) (register_here a.regs t (dynamic_address setting.at n) there, tt) grown
         (λ g v. code_grows k a.turns (code_of rest) g v) (found.3 room paid.begins.call)
         (λ x.
         behind setting {c1 = 98 + 70 * sought a n + 46} {c2 = c2} b t low x (omega arith) (omega arith)

@@ -232,7 +232,7 @@ module _ (setting : Setting) (placed : IsPlaced setting) (k most : ℕ) where
   handled h hs around is inside_raises fewer turns most_turns rs valid w z y c mark c_word mark_word condition of_condition of_mark site begins =
       routine_enters setting k (raise_routine setting.at) raise_frame 2 (raise_code setting.at) used (c_word ∷ mark_word ∷ []) refl y turns begins.things.represents.printed
       (grown_later (signals_under {R = FlatLater} {k = later_kept} (context_at setting k) (tasks_below setting k) around.handlers c mark around z).grows)
-      (let all = memory_holds setting begins.things in omega (arith, all)) begins.room begins.things.within_limit (omega arith) by
+      (let all = memory_holds setting begins.things in omega (arith, all)) begins.room begins.things.within_limit (omega arith) (omega arith) by
     where
       used : UsedAt setting.procedures (raise_routine setting.at) (framed raise_frame (procedure_with Turn 2 (raise_code setting.at)))
       used = routine_used setting placed 4 (framed raise_frame (procedure_with Turn 2 (raise_code setting.at))) refl

@@ -371,7 +371,7 @@ pub signal_does :
 unfolding signal_code
 signal_does setting placed k credit some low around turns raises rs valid w z y c mark c_word mark_word of_condition of_mark site begins =
     routine_enters setting k (signal_routine setting.at) passing_frame 2 (signal_code setting.at) used (c_word ∷ mark_word ∷ []) refl y turns begins.things.represents.printed (meant_grows setting k c mark around z)
-    (let all = memory_holds setting begins.things in omega (arith, all)) begins.room begins.things.within_limit (omega arith) by
+    (let all = memory_holds setting begins.things in omega (arith, all)) begins.room begins.things.within_limit (omega arith) (omega arith) by
   where
     used : UsedAt setting.procedures (signal_routine setting.at) (framed passing_frame (procedure_with Turn 2 (signal_code setting.at)))
     used = routine_used setting placed 5 (framed passing_frame (procedure_with Turn 2 (signal_code setting.at))) refl

@@ -146,7 +146,11 @@ module _ (setting : Setting) (placed : IsPlaced setting) (k t : ℕ) (rs valid :
   ends_there : (drawn == 2 ^ 32 - 1) ≡ true → CallEnds setting 310 (suc t + 47) rs valid w around z y r (exec cx (code_of (raise_code setting.at)) registers_first y)
   ends_there e =
       subst (λ q. CallEnds setting 310 (suc t + 47) rs valid w around z y r q) (sym (runs (subst (λ (q : MidOutcome). IsLast q.end) (sym ended) tt) ended))
-      (stopped (record { because = many drawn z.state.exits begins1.things.serials.2 e; printed = subst (λ (p : List ℕ). IsPrefix p z.state.printed) (sym things.represents.printed) (same_prefix z.state.printed) }))
+      (stopped (record {
+        because = many drawn z.state.exits begins1.things.serials.2 e;
+        printed = subst (λ (p : List ℕ). IsPrefix p z.state.printed) (sym things.represents.printed) (same_prefix z.state.printed);
+        paid = λ ended. omega arith;
+      }))
     where
       ended : exec cx (code_of (unhandled_code setting.at)) (regs_with None) y_choice ≡ ends exhausted (regs_with None) (charged 26 y_choice)
       ended = (and_ends tt (record { same = draw_ends cx (regs_with None) y_choice 5 3 0 serials_address drawn refl (omega arith) begins1.things.serials.1 e })).same
@@ -243,7 +247,7 @@ unfolding raise_code
 unhandled_law setting k turns rs valid w around z y placed none c mark c_word mark_word condition of_condition of_mark site begins =
     routine_enters setting k (raise_routine setting.at) raise_frame 2 (raise_code setting.at) used (c_word ∷ mark_word ∷ []) refl y turns begins.things.represents.printed
     (grown_later (signals_under {R = FlatLater} {k = later_kept} (context_at setting k) (tasks_below setting k) around.handlers c mark around z).grows)
-    (let all = memory_holds setting begins.things in omega (arith, all)) begins.room begins.things.within_limit (omega arith) by
+    (let all = memory_holds setting begins.things in omega (arith, all)) begins.room begins.things.within_limit (omega arith) (omega arith) by
   where
     used : UsedAt setting.procedures (raise_routine setting.at) (framed raise_frame (procedure_with Turn 2 (raise_code setting.at)))
     used = routine_used setting placed 4 (framed raise_frame (procedure_with Turn 2 (raise_code setting.at))) refl

@@ -39,6 +39,7 @@ use Rattle.back_relation.proofs.Activations.{activation_later}
 use Rattle.back_relation.proofs.Growth.{both_prefix}
 use Rattle.back_relation.proofs.Parts.{IsLast, go_on_falls, go_on_last}
 use Rattle.back_relation.proofs.Reaches.{first_stop_in}
+use Rattle.back_relation.proofs.Stops.{stopped_before}
 use Rattle.back_relation.proofs.Windows.{stored_elsewhere}
 use Rattle.back_relation.proofs.Worlds.{Same}
 use Rattle.back_relation.proofs.Boxes.{stack_above, stack_stays}
@@ -575,5 +576,5 @@ module _ (setting : Setting) (placed : IsPlaced setting) (a : Start setting) whe
           printed = both_prefix f.printed (record { rest = more.printed.0; is = sym more.printed.1 });
         })
     within_ends c word {credit} {r} {q} enough grown none (stopped f) =
-        subst (λ o. EndsAt setting credit a r o) (sym (stopped_closes c word r q q.end refl f.because)) (stopped f)
+        subst (λ o. EndsAt setting credit a r o) (sym (stopped_closes c word r q q.end refl f.because)) (stopped (stopped_before setting (omega (arith, enough)) f))
     within_ends c word {credit} {r} {q} enough grown none (few_turns f) = few_turns (omega (arith, f, h.size))

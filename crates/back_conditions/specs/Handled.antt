@@ -1,7 +1,8 @@
 -- What is asked where a handler is applied, and what a control error behind it leaves over.
-use Rattle.std.specs.Prelude.{ℕ, List, [], ◌∷◌}
+use Rattle.std.specs.Prelude.{ℕ, List, [], ◌∷◌, ◌+◌}
 use Rattle.lang_meaning.specs.Objects.{control_error_class}
 use Rattle.lang_meaning.specs.State.{DynamicContext}
+use Rattle.lang_meaning.specs.Counts.{unit_cost}
 use Rattle.flat_language.specs.FlatSignals.{signal}
 use Rattle.flat_language.specs.FlatState.{FlatState, charged}
 use Rattle.mid_code.specs.State.{MidState}
@@ -26,10 +27,10 @@ module _ (setting : Setting) (k turns : ℕ) (around : DynamicContext) where
   abbrev pub FailsPaid : Type 0
   FailsPaid =
       (rs valid : List Standing) (w : World) (z : FlatState) (y : MidState) → SiteStored setting around y → CallBegins setting rs valid failing_words w around z y
-      → Ends setting
+      → Ends setting (making_credit + unit_cost)
       (Returned setting making_credit w (charged 1 z) y (signal (context_at setting k) control_error_class [] around z)
       (called (code_at setting k turns) (failing_routine setting.at) (control_error_class ∷ []) y))
       (LeftCall setting making_credit rs valid w around (charged 1 z) y (signal (context_at setting k) control_error_class [] around z)
       (called (code_at setting k turns) (failing_routine setting.at) (control_error_class ∷ []) y))
-      turns z y (signal (context_at setting k) control_error_class [] around z)
+      turns (charged 1 z) y (signal (context_at setting k) control_error_class [] around z)
       (called (code_at setting k turns) (failing_routine setting.at) (control_error_class ∷ []) y)

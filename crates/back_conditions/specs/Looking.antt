@@ -26,7 +26,7 @@ abbrev pub LooksAnywhere :
     (setting : Setting) (k turns : ℕ) (rs valid : List Standing) → World → DynamicContext → FlatState → MidState → (room most routine : ℕ) → List ℕ → (word : ℕ) → Type 0
 LooksAnywhere setting k turns rs valid w around z y room most routine ws word =
     looking_words ≤ room → CallBegins setting rs valid room w around z y
-    → Ends setting (Looks setting k turns rs valid w around z y most word (called (code_at setting k turns) routine ws y)) ⊥ turns z y (gives nil z)
+    → Ends setting most (Looks setting k turns rs valid w around z y most word (called (code_at setting k turns) routine ws y)) ⊥ turns z y (gives nil z)
     (called (code_at setting k turns) routine ws y)
 
 -- whether a value is a function: 1, or 0

@@ -52,22 +52,27 @@ module _ (setting : Setting) (a : Start setting) where
   wants r unlimited enough few h g = tt
   wants r (words m) enough few h g = absurd (omega (arith, enough, few, h, g))
 
-  pub no_words : {credit : ℕ} (cost : ℕ) (r : FlatEvaluated) → FlatGrown a.z r.state → 8 ≤ a.n → left a.y.arena < 8 → EndsAt setting credit a r (ends (no_room 8 (left a.y.arena)) a.regs (mid_charged cost a.y))
-  no_words cost r g enough few =
-      stopped (record { because = (wants r setting.limit enough few a.begins.call.room a.begins.call.things.within_limit, few); printed = printed_before r g })
+  pub no_words : {credit : ℕ} (cost : ℕ) → cost ≤ credit → (r : FlatEvaluated) → FlatGrown a.z r.state → 8 ≤ a.n → left a.y.arena < 8 → EndsAt setting credit a r (ends (no_room 8 (left a.y.arena)) a.regs (mid_charged cost a.y))
+  no_words cost cheap r g enough few =
+      stopped (record {
+        because = (wants r setting.limit enough few a.begins.call.room a.begins.call.things.within_limit, few);
+        printed = printed_before r g;
+        paid = λ ended. omega (arith, cheap, g.units);
+      })
 
   -- ---- no serial number
 
   pub no_serial :
-      {credit : ℕ} (r : FlatEvaluated) (regs : Registers) (y : MidState) → y.printed ≡ a.y.printed → FlatGrown a.z r.state → a.z.state.exits + 1 ≤ r.state.state.exits
+      {credit : ℕ} (r : FlatEvaluated) (regs : Registers) (y : MidState) → y.printed ≡ a.y.printed → y.cost ≤ a.y.cost + credit → FlatGrown a.z r.state → a.z.state.exits + 1 ≤ r.state.state.exits
       → (a.begins.call.things.serials.0 == 2 ^ 32 - 1) ≡ true → EndsAt setting credit a r (ends exhausted regs y)
-  no_serial r regs y same g more last =
+  no_serial r regs y same cheap g more last =
       let s = a.begins.call.things.serials in
       let drawn : s.0 ≡ 2 ^ 32 - 1 = eqb-true s.0 (2 ^ 32 - 1) last in
       let count = s.2 in
       stopped (record {
         because = omega (arith, drawn, count, more);
         printed = subst (λ xs. IsPrefix xs r.state.state.printed) (sym same) (printed_before r g);
+        paid = λ ended. omega (arith, cheap, g.units);
       })
 
 module _ (setting : Setting) (placed : IsPlaced setting) (k turns : ℕ) (a : Start setting) (room : 8 ≤ left a.y.arena) (win : Window a.regs a.d) where

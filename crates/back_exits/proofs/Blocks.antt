@@ -187,7 +187,7 @@ module _ (setting : Setting) (placed : IsPlaced setting) (s : FormScope) (d m n 
     with_words : (b : Bool) → (drawn setting placed k turns a room win == 2 ^ 32 - 1) ≡ b → EndsAt setting 600 a result (exec_step (code_at setting k turns) step p.regs p.y)
     with_words true last =
         subst (λ q. EndsAt setting 600 a result q) (sym (ended last))
-        (no_serial setting a result (ended_registers setting placed k turns a room win) (ended_state setting placed k turns a room win) refl grown more last)
+        (no_serial setting a result (ended_registers setting placed k turns a room win) (ended_state setting placed k turns a room win) refl (omega arith) grown more last)
       where
         more : p.z.state.exits + 1 ≤ result.state.state.exits
         more = one_more_exit
@@ -201,7 +201,7 @@ module _ (setting : Setting) (placed : IsPlaced setting) (s : FormScope) (d m n 
       by false same =
           let few = leb-false 8 (left p.y.arena) same in
           subst (λ q. EndsAt setting 600 a result q) (sym (record_wanting (code_at setting k turns) (d + 1) record_words d (code_of inside_steps) (code_of (landing_steps d)) p.regs p.y few))
-          (no_words setting a record_cost result grown (omega (arith, enough)) few)
+          (no_words setting a record_cost (omega arith) result grown (omega (arith, enough)) few)
 
 pub blocks_law : LawOfBlocks
 unfolding mean lower

@@ -24,6 +24,7 @@ use Rattle.back_relation.specs.Around.{AroundStands, RoomFor, CallBegins, SiteSt
 use Rattle.back_relation.specs.Ends.{ControlBack, WorldKept, Around, Transfers, Because, CallEnds, done, left_by, full_there, stopped, few_turns}
 use Rattle.back_relation.specs.Cuts.{world_cut}
 use Rattle.back_relation.proofs.Cuts.{later_cut}
+use Rattle.back_relation.proofs.Stops.{stopped_before}
 use Rattle.back_relation.proofs.Worlds.{later_then, plain_later, word_later, Deeper, record_stays, handlers_stay, bindings_stay, links_raise, chain_lower}
 use Rattle.back_exits.proofs.Entries.{laid_frame}
 use Rattle.back_exits.proofs.Frames.{one_stands, IsOfTransfer, Touched, world_touched, control_touched, word_in_front, word_behind}
@@ -318,5 +319,6 @@ module _ (setting : Setting) (placed : IsPlaced setting) where
           printed = subst (λ (p : List ℕ). IsPrefix r.state.state.printed p) (sym (leaves_printed y.arena.blocks q)) x.printed;
         })
     body_leaves {c = c} {turns = turns} {rs = rs} {valid = valid} {around = around} {r = r} {q = q} paid (stopped x) =
-        subst (λ p. CallEnds setting c turns rs valid w around z y r p) (sym (leaves_passes y.arena.blocks q q.end refl (stopped_passes setting r q.end x.because))) (stopped x)
+        subst (λ p. CallEnds setting c turns rs valid w around z y r p) (sym (leaves_passes y.arena.blocks q q.end refl (stopped_passes setting r q.end x.because)))
+        (stopped (stopped_before setting (omega (arith, paid)) x))
     body_leaves paid (few_turns x) = few_turns (let size = grown.size in omega (arith, x, size))

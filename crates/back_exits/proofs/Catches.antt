@@ -183,7 +183,7 @@ module _ (setting : Setting) (placed : IsPlaced setting) (m size k : ℕ) (body 
     with_words true last =
         let more = body_grows setting k body a.env a.around v a.z in
         subst (λ q. EndsAt setting 600 a result q) (sym (ended last))
-        (no_serial setting a result (ended_registers setting placed k a.turns a room win v word in_register of_value) (ended_state setting placed k a.turns a room win v word in_register of_value) refl grown more.exits last)
+        (no_serial setting a result (ended_registers setting placed k a.turns a room win v word in_register of_value) (ended_state setting placed k a.turns a room win v word in_register of_value) refl (omega arith) grown more.exits last)
     with_words false fewer = subst (λ q. EndsAt setting 600 a result q) (sym (runs_so fewer)) (ends_so fewer)
 
   pub catch_step : EndsAt setting 600 a result (exec_step (code_at setting k a.turns) step a.regs a.y)
@@ -194,7 +194,7 @@ module _ (setting : Setting) (placed : IsPlaced setting) (m size k : ℕ) (body 
       by false same =
           let few = leb-false 8 (left a.y.arena) same in
           subst (λ q. EndsAt setting 600 a result q) (sym (record_wanting (code_at setting k a.turns) (a.d + 1) record_words a.d (code_of inside_steps) (code_of (landing_steps a.d)) a.regs a.y few))
-          (no_words setting a record_cost result grown (omega (arith, enough)) few)
+          (no_words setting a record_cost (omega arith) result grown (omega (arith, enough)) few)
 
   -- the code of the catch behind its tag
   pub catch_sim : EndsAt setting 600 a result (exec (code_at setting k a.turns) (code_of (catch_code a.d body_steps)) a.regs a.y)

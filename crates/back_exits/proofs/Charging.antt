@@ -4,7 +4,7 @@ use Rattle.lang_meaning.specs.Counts.{unit_cost}
 use Rattle.lang_meaning.specs.Values.{Value}
 use Rattle.flat_language.specs.FlatState.{FlatState, FlatEvaluated, go_on, charged}
 use Rattle.mid_code.specs.Law.{Grown}
-use Rattle.mid_code.specs.State.{Registers, MidState, MidOutcome, Next}
+use Rattle.mid_code.specs.State.{Registers, no_level, MidState, MidOutcome, Next}
 use Rattle.mid_code.specs.State.{go_on as mid_go_on}
 use Rattle.mid_code.proofs.Growth.{go_on_grown, same_grown}
 use Rattle.back_relation.specs.Setting.{Setting}
@@ -14,6 +14,7 @@ use Rattle.back_relation.specs.Starts.{FlatGrown, Start, FellFrom, ReachedFrom, 
 use Rattle.back_relation.proofs.Growth.{both_prefix, then_value, then_other, then_grown}
 use Rattle.back_relation.proofs.Parts.{go_on_falls, go_on_last}
 use Rattle.back_relation.proofs.Starts.{start_after, start_charged, reached_repaid}
+use Rattle.back_relation.proofs.Stops.{stopped_before}
 use Rattle.back_relation.proofs.Then.{reached_then, left_behind, because_then, stopped_last, registers_less}
 
 module _ (setting : Setting) where
@@ -28,12 +29,12 @@ module _ (setting : Setting) where
     pub left_then : {r : FlatEvaluated} {q : MidOutcome} → LeftFrom setting c2 next_start a.d r q → LeftFrom setting c a a.d r q
     left_then t = left_behind setting low x enough t
 
-    pub ends_then : {D E : Type 0} {r : FlatEvaluated} {q : MidOutcome} → a.z.state.units ≤ z.state.units → (D → E) → Ends setting D (LeftFrom setting c2 next_start a.d r q) a.turns z y r q
+    pub ends_then : {D E : Type 0} {r : FlatEvaluated} {q : MidOutcome} → a.z.state.units ≤ z.state.units → (D → E) → Ends setting (c2 + unit_cost) D (LeftFrom setting c2 next_start a.d r q) a.turns z y r q
         → EndsBy setting E c a r q
     ends_then up f (done k) = done (f k)
     ends_then up f (left_by t) = left_by (left_then t)
     ends_then up f (full_there k) = full_there k
-    ends_then up f (stopped k) = stopped k
+    ends_then up f (stopped k) = stopped (stopped_before setting (omega (arith, x.back.paid, enough)) k)
     ends_then up f (few_turns k) = let size = x.kept.world.same_size in few_turns (omega (arith, k, up, size))
 
     fell_then : {r : FlatEvaluated} {q : MidOutcome} → FellFrom setting c2 next_start a.d r q → FellFrom setting c a a.d r q
@@ -50,7 +51,7 @@ module _ (setting : Setting) where
 
     pub whole_then :
         {r : FlatEvaluated} {q : MidOutcome} → a.z.state.units ≤ z.state.units
-        → Ends setting (FellFrom setting c2 next_start a.d r q) (LeftFrom setting c2 next_start a.d r q) a.turns z y r q → EndsAt setting c a r q
+        → Ends setting (c2 + unit_cost) (FellFrom setting c2 next_start a.d r q) (LeftFrom setting c2 next_start a.d r q) a.turns z y r q → EndsAt setting c a r q
     whole_then up h = ends_then up fell_then h
 
   -- ---- the units of a form pay for what follows
@@ -104,7 +105,7 @@ module _ (setting : Setting) where
     })
     units_then (left_by t) = left_by (left_paid t)
     units_then (full_there k) = full_there k
-    units_then (stopped k) = stopped k
+    units_then (stopped k) = stopped (stopped_before setting (omega (arith, enough)) k)
     units_then (few_turns k) = few_turns (omega (arith, k))
 
   -- ---- **one thing after another**
@@ -149,7 +150,7 @@ module _ (setting : Setting) where
     }
 
     pub part_then :
-        {D : Type 0} → Ends setting D (LeftFrom setting c1 a d1 r q) a.turns a.z a.y r q → (D → Whole (go_on r f) (mid_go_on q next)) → Whole (go_on r f) (mid_go_on q next)
+        {D : Type 0} → Ends setting (c1 + unit_cost) D (LeftFrom setting c1 a d1 r q) a.turns a.z a.y r q → (D → Whole (go_on r f) (mid_go_on q next)) → Whole (go_on r f) (mid_go_on q next)
     part_then (done k) h = h k
     part_then (left_by t) h =
         subst (λ p. Whole p (mid_go_on q next)) (sym (then_other r f _ t.transfer.outcome tt))
@@ -161,13 +162,17 @@ module _ (setting : Setting) where
     part_then (stopped k) h =
         let g : FlatGrown r.state (go_on r f).state = then_grown r f grown in
         subst (λ s. Whole (go_on r f) s) (sym (go_on_last q.end q next refl (stopped_last setting r q.end k.because)))
-        (stopped (record { because = because_then setting r f q.end g k.because; printed = both_prefix k.printed g.printed }))
+        (stopped (record {
+          because = because_then setting r f q.end g k.because;
+          printed = both_prefix k.printed g.printed;
+          paid = λ ended. let paid = k.paid (λ none. ended (because_then setting r f no_level g none)) in omega (arith, paid, less, g.units);
+        }))
     part_then (few_turns k) h =
         let g : FlatGrown r.state (go_on r f).state = then_grown r f grown in few_turns (omega (arith, k, g.units))
 
     -- where the part's value comes in a register
     pub value_then :
-        Ends setting (FellFrom setting c1 a d1 r q) (LeftFrom setting c1 a d1 r q) a.turns a.z a.y r q
+        Ends setting (c1 + unit_cost) (FellFrom setting c1 a d1 r q) (LeftFrom setting c1 a d1 r q) a.turns a.z a.y r q
         → ((x : FellFrom setting c1 a d1 r q) → Whole (f x.result r.state) (next q.registers q.state)) → Whole (go_on r f) (mid_go_on q next)
     value_then e h =
         part_then e

@@ -138,14 +138,14 @@ module _ (setting : Setting) where
     pub routine_enters :
         (turns : ℕ) {credit spare n : ℕ} {rs valid : List Standing} {w : World} {around : DynamicContext} {z : FlatState} {r : FlatEvaluated}
         → y.printed ≡ z.state.printed → FlatGrown z r.state → spare ≤ length y.arena.memory → RoomFor setting.limit n z.state y → WithinLimit setting.limit z.state
-        → f ≤ n
+        → f ≤ n → entry_cost m ≤ credit
         → ((t : ℕ) → turns ≡ suc t → used.frame ≤ left y.arena
         → CallEnds setting credit (turns + spare) rs valid w around z y r
         (leaves y.arena.blocks (exec (code_at setting k t) (code_of code) (routine_registers m code ws) (laid_frame used.frame m y))))
         → CallEnds setting credit (turns + spare) rs valid w around z y r (run_of turns)
-    routine_enters zero {z = z} {r = r} printed grown few room within fits h =
+    routine_enters zero {z = z} {r = r} printed grown few room within fits cheap h =
         few_turns (omega (arith, few, grown.units))
-    routine_enters (suc t) {credit = credit} {spare = spare} {n = n} {rs = rs} {valid = valid} {w = w} {around = around} {z = z} {r = r} printed grown few room within fits h =
+    routine_enters (suc t) {credit = credit} {spare = spare} {n = n} {rs = rs} {valid = valid} {w = w} {around = around} {z = z} {r = r} printed grown few room within fits cheap h =
         by (nat_le used.frame (left y.arena)) refl
       where
         by : (b : Bool) → nat_le used.frame (left y.arena) ≡ b → CallEnds setting credit (suc t + spare) rs valid w around z y r (run_of (suc t))
@@ -158,4 +158,5 @@ module _ (setting : Setting) where
             (stopped (record {
               because = (room_ended setting.limit z n r.outcome room within (omega (arith, used.fewer, fits)) wants, wants);
               printed = subst (λ (p : List ℕ). IsPrefix p r.state.state.printed) (sym printed) grown.printed;
+              paid = λ ended. omega (arith, cheap, grown.units);
             }))

@@ -299,7 +299,13 @@ module _ (setting : Setting) (a : Start setting) {units cost : ℕ} {x : Exit} {
       exit_ends (stopped f) =
           let g = landed_grows setting x.number land land_grows r in
           subst (λ p. Whole (meant r) p) (sym (stop_passes (length a.y.arena.blocks) rest catch setting r q q.end refl f.because))
-          (stopped (record { because = because_landed setting x.number land land_grows r q.end f.because; printed = both_prefix f.printed g.printed }))
+          (stopped (record {
+            because = because_landed setting x.number land land_grows r q.end f.because;
+            printed = both_prefix f.printed g.printed;
+            paid = λ ended.
+                let paid = f.paid (λ none. ended (because_landed setting x.number land land_grows r no_level none)) in
+                omega (arith, paid, g.units, laid.paid, laid.units_there, enough);
+          }))
       exit_ends (few_turns f) =
           let g = landed_grows setting x.number land land_grows r in
           let same = laid.world.same_size in

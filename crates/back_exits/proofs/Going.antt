@@ -3,6 +3,7 @@ use Rattle.std.proofs.Common.{◌≡◌, ℕ, ◌+◌, ◌*◌, ◌<◌, ◌≤�
 use Rattle.std.specs.Prelude.{slice_get}
 use Rattle.lang_meaning.specs.State.{Exit, Landing}
 use Rattle.lang_meaning.specs.Values.{Value}
+use Rattle.lang_meaning.specs.Counts.{unit_cost}
 use Rattle.flat_language.specs.FlatState.{FlatState, leaves}
 use Rattle.mid_code.specs.Arena.{stack_from, word_in}
 use Rattle.mid_code.specs.Meaning.{Context}
@@ -222,12 +223,13 @@ module _ (setting : Setting) (placed : IsPlaced setting) (k : ℕ) (a : Start se
       stop_passes exhausted h = tt
       stop_passes o h = absurd h
 
-      by : Ends setting (Returned setting routine_credit w7 z y7 (leaves e v landing z) q7) (LeftCall setting routine_credit a.rs valid w7 (around_with exits a.around) z y7 (leaves e v landing z) q7) a.turns z y7 (leaves e v landing z) q7
+      by : Ends setting (routine_credit + unit_cost) (Returned setting routine_credit w7 z y7 (leaves e v landing z) q7) (LeftCall setting routine_credit a.rs valid w7 (around_with exits a.around) z y7 (leaves e v landing z) q7) a.turns z y7 (leaves e v landing z) q7
           → EndsAt setting whole a (leaves e v landing z) p
       by (done r) = absurd (cc r.outcome)
       by (left_by t) =
           subst (λ q. EndsAt setting whole a (leaves e v landing z) q) (sym (so (cuts t.transfer.to.outside t.transfer.word) tt t.transfer.end)) (left_by (went t))
       by (full_there f) = absurd (cc f.outcome)
       by (stopped h) =
-          subst (λ q. EndsAt setting whole a (leaves e v landing z) q) (sym (so q7.end (stop_passes q7.end h.because) refl)) (stopped (record { because = h.because; printed = h.printed }))
+          subst (λ q. EndsAt setting whole a (leaves e v landing z) q) (sym (so q7.end (stop_passes q7.end h.because) refl)) 
+          (stopped (record { because = h.because; printed = h.printed; paid = λ ended. omega (arith, came7.paid, enough, h.paid ended) }))
       by (few_turns h) = let size = came7.world.same_size in few_turns (omega (arith, h, size, up))

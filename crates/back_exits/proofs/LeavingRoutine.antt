@@ -242,7 +242,7 @@ leave_does setting placed k turns rs valid w around fails z y e v landing word l
     call_less setting (omega arith) (omega arith)
     (routine_enters setting k (leave_routine setting.at) passing_frame 3 (leave_code setting.at) used (e ∷ word ∷ landing_word ∷ []) refl y turns begins.things.represents.printed
     (grown_later (transfers {R = FlatLater} {k = later_kept} (context_at setting k) (tasks_below setting k) (Some e) v landing around z).grows)
-    (let all = memory_holds setting begins.things in omega (arith, all)) begins.room begins.things.within_limit (omega arith) by)
+    (let all = memory_holds setting begins.things in omega (arith, all)) begins.room begins.things.within_limit (omega arith) (omega arith) by)
   where
     used : UsedAt setting.procedures (leave_routine setting.at) (framed passing_frame (procedure_with Turn 3 (leave_code setting.at)))
     used = routine_used setting placed 1 (framed passing_frame (procedure_with Turn 3 (leave_code setting.at))) refl

@@ -25,6 +25,7 @@ use Rattle.mid_code.specs.Arena.{blocks_from}
 use Rattle.back_relation.specs.Ends.{WorldKept, Around, Transfers, CallEnds, done, left_by, full_there, stopped, few_turns}
 use Rattle.back_relation.specs.Procedures.{called}
 use Rattle.back_relation.proofs.Parts.{IsLast, go_on_last}
+use Rattle.back_relation.proofs.Stops.{stopped_before}
 use Rattle.back_relation.proofs.Straight.{world_cost, around_cost}
 use Rattle.back_relation.proofs.Then.{from_same, world_then, back_then}
 use Rattle.back_exits.proofs.Bodies.{Passes, stopped_passes}
@@ -95,7 +96,7 @@ module _ (setting : Setting) where
         })
     call_behind same turns (left_by x) = left_by (record { transfer = transfer_behind x.transfer; frame = x.frame ∙ same })
     call_behind same turns (full_there x) = full_there x
-    call_behind same turns (stopped x) = stopped x
+    call_behind same turns (stopped x) = stopped (stopped_before setting (omega (arith, a.paid, paid)) x)
     call_behind same turns (few_turns x) = few_turns (omega (arith, x, turns, k.same_size))
 
 -- ---- a call step
@@ -240,7 +241,7 @@ module _ (c : Context) (to : ℕ) (regs : Registers) (there : to < length regs) 
         })
     tail_comes (stopped x) =
         subst (λ p. CallEnds setting c' turns rs valid w around z y r p) (sym (tail_passes q q.end refl (stopped_passes setting r q.end x.because)))
-        (stopped (record { because = x.because; printed = x.printed }))
+        (stopped (record { because = x.because; printed = x.printed; paid = λ ended. let p = x.paid ended in omega (arith, p, enough) }))
     tail_comes (few_turns x) = few_turns x
 
 -- **one routine calls another and returns what that comes to**

@@ -39,6 +39,7 @@ use Rattle.back_relation.proofs.Parts.{go_on_falls}
 use Rattle.back_relation.proofs.Points.{point_after, charged_point}
 use Rattle.back_relation.proofs.Sequences.{sequence_grows}
 use Rattle.back_relation.proofs.Starts.{start_after, start_charged, ends_charged_by, reached_repaid, reached_cost, reached_same}
+use Rattle.back_relation.proofs.Stops.{stopped_before}
 use Rattle.back_relation.proofs.Straight.{same_here, world_cost, around_cost}
 use Rattle.back_relation.proofs.Then.{ends_go_on, ends_behind, reached_then}
 use Rattle.back_relation.proofs.Worlds.{later_same}
@@ -56,8 +57,8 @@ go_twice r f g = from r.outcome
     from more = refl
 
 pub fewer_turns :
-    {setting : Setting} {D L : Type 0} {t u : ℕ} {z : FlatState} {y : MidState} {r : FlatEvaluated} {q : MidOutcome} → u ≤ t → Ends setting D L t z y r q
-    → Ends setting D L u z y r q
+    {setting : Setting} {c : ℕ} {D L : Type 0} {t u : ℕ} {z : FlatState} {y : MidState} {r : FlatEvaluated} {q : MidOutcome} → u ≤ t → Ends setting c D L t z y r q
+    → Ends setting c D L u z y r q
 fewer_turns l (done x) = done x
 fewer_turns l (left_by x) = left_by x
 fewer_turns l (full_there x) = full_there x
@@ -67,11 +68,11 @@ fewer_turns l (few_turns x) = few_turns (omega (arith, x, l))
 -- a unit pays for turns too
 unit_paid :
     (setting : Setting) {D E : Type 0} {c1 c2 : ℕ} (a : Start setting) (u : ℕ) {r : FlatEvaluated} {q : MidOutcome} → a.turns ≤ u + 16 → (D → E) → c1 ≤ unit_cost * 1 + c2
-    → Ends setting D (LeftFrom setting c1 (start_charged setting a 1) a.d r q) u (charged 1 a.z) a.y r q → EndsBy setting E c2 a r q
+    → Ends setting (c1 + unit_cost) D (LeftFrom setting c1 (start_charged setting a 1) a.d r q) u (charged 1 a.z) a.y r q → EndsBy setting E c2 a r q
 unit_paid setting a u few f h (done x) = done (f x)
 unit_paid setting {D} a u few f h (left_by x) = ends_charged_by setting {D = D} a 1 f h (left_by x)
 unit_paid setting a u few f h (full_there x) = full_there x
-unit_paid setting a u few f h (stopped x) = stopped x
+unit_paid setting a u few f h (stopped x) = stopped (stopped_before setting (omega (arith, h)) x)
 unit_paid setting a u few f h (few_turns x) = few_turns (omega (arith, x, few))
 
 -- registers behind the first ones were set
@@ -138,7 +139,7 @@ module _ (setting : Setting) (s : FormScope) (d m size k : ℕ) (all : FlatForms
 
   -- what the loop comes to, with so many turns
   abbrev pub Whole : (credit turns : ℕ) → P → FlatEvaluated → MidOutcome → Type 0
-  Whole credit t p r q = Ends setting (Ended credit p r q) (Left setting credit p.rs p.valid s (d + 6) p.w p.env p.around p.z p.regs p.y r q) t p.z p.y r q
+  Whole credit t p r q = Ends setting (credit + unit_cost) (Ended credit p r q) (Left setting credit p.rs p.valid s (d + 6) p.w p.env p.around p.z p.regs p.y r q) t p.z p.y r q
 
   abbrev bodies : MidCodes
   bodies = lower_segments setting.names setting.at setting.program s.code (d + 7) all
@@ -340,7 +341,7 @@ module _ (setting : Setting) (s : FormScope) (d m size k : ℕ) (all : FlatForms
         abbrev rest_then : Value → FlatState → FlatEvaluated
         rest_then x after = from (suc i) x p.env p.around after
 
-        form_ends : Ends setting (Fell setting form_credit p.rs p.valid s (d + 7) p.w p.env p.around (charged 1 p.z) p.regs (mid_charged test_cost p.y) r1 q1)
+        form_ends : Ends setting (form_credit + unit_cost) (Fell setting form_credit p.rs p.valid s (d + 7) p.w p.env p.around (charged 1 p.z) p.regs (mid_charged test_cost p.y) r1 q1)
             (Left setting form_credit p.rs p.valid s (d + 7) p.w p.env p.around (charged 1 p.z) p.regs (mid_charged test_cost p.y) r1 q1) u (charged 1 p.z) (mid_charged test_cost p.y) r1 q1
         form_ends = fewer_turns fewer (f.here t segments_here ps)
 

@@ -185,7 +185,7 @@ module _ (setting : Setting) (placed : IsPlaced setting) (s : FormScope) (d m n 
       by : (b : Bool) → (drawn setting placed c a (count_forms all) some wide_here == 2 ^ 32 - 1) ≡ b → EndsAt setting 600 a result (exec c (code_of steps) p.regs p.y)
       by true last =
           subst (λ q. EndsAt setting 600 a result q) (sym (ended last))
-          (no_serial setting a result (counted_registers setting placed c a (count_forms all) some wide_here) (mid_charged 26 (counted_state setting placed c a (count_forms all) some wide_here)) refl grown one_more last)
+          (no_serial setting a result (counted_registers setting placed c a (count_forms all) some wide_here) (mid_charged 26 (counted_state setting placed c a (count_forms all) some wide_here)) refl (omega arith) grown one_more last)
       by false few = subst (λ q. EndsAt setting 600 a result q) (sym (runs_so few)) (ends_so few)
 
   pub tagbody_sim : SparingAt setting a0 result (exec c (code_of steps) p.regs p.y)

@@ -9,7 +9,7 @@ use Rattle.lang_meaning.specs.Values.{Value}
 use Rattle.flat_language.specs.FlatState.{FlatState, FlatEvaluated}
 use Rattle.flat_language.specs.FlatState.{landed as flat_landed, landed_from as flat_landed_from}
 use Rattle.mid_code.specs.Law.{Grown}
-use Rattle.mid_code.specs.State.{Registers, cuts, MidState, MidOutcome, Next, landed}
+use Rattle.mid_code.specs.State.{Registers, cuts, no_level, MidState, MidOutcome, Next, landed}
 use Rattle.mid_code.specs.State.{go_on as mid_go_on}
 use Rattle.mid_code.proofs.Growth.{go_on_grown, landed_grown, same_grown}
 use Rattle.back_lowering.specs.declared.scope.OwnExit.{OwnExit}
@@ -54,7 +54,7 @@ module _ (setting : Setting) (a : Start setting) {units cost : ℕ} {x : Exit} {
         (t : LeftFrom setting c1 inside (a.d + n) r q) → new_record ≡ t.transfer.to → t.transfer.exit_number ≡ x.number
         → Whole (land t.transfer.result t.transfer.landing r.state) (mid_go_on (catch t.transfer.word q.registers q.state) next)) where
       -- **what the code inside comes to, and what the whole comes to**
-      pub exit_then : Ends setting D (LeftFrom setting c1 inside (a.d + n) r q) a.turns z y r q → Whole (meant r) (code q)
+      pub exit_then : Ends setting (c1 + unit_cost) D (LeftFrom setting c1 inside (a.d + n) r q) a.turns z y r q → Whole (meant r) (code q)
       exit_then (done f) = subst (λ p. Whole p (code q)) (sym (landed_value setting x.number land land_grows r (result f) (outcome f))) (leaving f)
       exit_then (left_by t) = by (t.transfer.exit_number == x.number) refl
         where
@@ -93,7 +93,13 @@ module _ (setting : Setting) (a : Start setting) {units cost : ℕ} {x : Exit} {
           subst (λ p. Whole (meant r) p)
           (sym (ap (λ o. mid_go_on o next) (stop_passes (length a.y.arena.blocks) rest catch setting r q q.end refl f.because)
           ∙ go_on_last q.end q next refl (stopped_last setting r q.end f.because)))
-          (stopped (record { because = because_landed setting x.number land land_grows r q.end f.because; printed = both_prefix f.printed g.printed }))
+          (stopped (record {
+            because = because_landed setting x.number land land_grows r q.end f.because;
+            printed = both_prefix f.printed g.printed;
+            paid = λ ended.
+                let paid = f.paid (λ none. ended (because_landed setting x.number land land_grows r no_level none)) in
+                omega (arith, paid, g.units, laid.paid, laid.units_there, enough);
+          }))
       exit_then (few_turns f) =
           let g = landed_grows setting x.number land land_grows r in
           let same = laid.world.same_size in

@@ -451,7 +451,7 @@ throw_does setting placed k turns rs valid w around fails z y tag v tag_word wor
     call_less setting (omega arith) (omega arith)
     (routine_enters setting k (throw_routine setting.at) passing_frame 2 (throw_code setting.at) used (tag_word ∷ word ∷ []) refl y turns begins.things.represents.printed
     (grown_later (throws {R = FlatLater} {k = later_kept} (context_at setting k) (tasks_below setting k) tag v around z).grows)
-    (let all = memory_holds setting begins.things in omega (arith, all)) begins.room begins.things.within_limit (omega arith) by)
+    (let all = memory_holds setting begins.things in omega (arith, all)) begins.room begins.things.within_limit (omega arith) (omega arith) by)
   where
     used : UsedAt setting.procedures (throw_routine setting.at) (framed passing_frame (procedure_with Turn 2 (throw_code setting.at)))
     used = routine_used setting placed 2 (framed passing_frame (procedure_with Turn 2 (throw_code setting.at))) refl
@@ -476,7 +476,7 @@ continue_does setting placed k turns rs valid w around fails z y tag v tag_word 
     call_less setting (omega arith) (omega arith)
     (routine_enters setting k (continue_routine setting.at) passing_frame 2 (continue_code setting.at) used (tag_word ∷ word ∷ []) refl y turns begins.things.represents.printed
     (grown_later (continues {R = FlatLater} {k = later_kept} (context_at setting k) (tasks_below setting k) tag v around z).grows)
-    (let all = memory_holds setting begins.things in omega (arith, all)) begins.room begins.things.within_limit (omega arith) by)
+    (let all = memory_holds setting begins.things in omega (arith, all)) begins.room begins.things.within_limit (omega arith) (omega arith) by)
   where
     used : UsedAt setting.procedures (continue_routine setting.at) (framed passing_frame (procedure_with Turn 2 (continue_code setting.at)))
     used = routine_used setting placed 3 (framed passing_frame (procedure_with Turn 2 (continue_code setting.at))) refl

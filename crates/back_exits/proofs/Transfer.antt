@@ -275,7 +275,7 @@ pub transfer_does :
     → TransferWithin setting k turns rs valid w around z y
 unfolding transfer_code
 transfer_does setting placed k turns rs valid w around z y e v landing target word landing_word valid_target of_value landing_there landing_is lands begins =
-    routine_enters setting k (transfer_routine setting.at) (routine_frame setting (transfer_code setting.at)) 2 (transfer_code setting.at) used (target.address ∷ word ∷ []) refl y turns printed (same_flat z) spare begins.room begins.things.within_limit (omega arith)
+    routine_enters setting k (transfer_routine setting.at) (routine_frame setting (transfer_code setting.at)) 2 (transfer_code setting.at) used (target.address ∷ word ∷ []) refl y turns printed (same_flat z) spare begins.room begins.things.within_limit (omega arith) (omega arith)
     (λ t e room. by t e room (nat_le (length rs) t) refl)
   where
     used : UsedAt setting.procedures (transfer_routine setting.at) (procedure_with Turn 2 (transfer_code setting.at))

@@ -66,8 +66,8 @@ turn_below setting (suc k) all e i env around z = refl
 
 -- code that found no words is no loop that fell out
 no_words_left :
-    (setting : Setting) {c1 c2 : ℕ} (a : Start setting) (r : FlatEvaluated) (asked left_then : ℕ) (regs : Registers) (y : MidState)
-    → EndsAt setting c1 a r (ends (no_room asked left_then) regs y) → LoopEnds setting c2 a r (ends (no_room asked left_then) regs y)
+    (setting : Setting) {c : ℕ} (a : Start setting) (r : FlatEvaluated) (asked left_then : ℕ) (regs : Registers) (y : MidState)
+    → EndsAt setting c a r (ends (no_room asked left_then) regs y) → LoopEnds setting c a r (ends (no_room asked left_then) regs y)
 no_words_left setting a r asked left_then regs y (done x) = absurd (cc x.end)
 no_words_left setting a r asked left_then regs y (left_by x) = absurd (cc x.transfer.end)
 no_words_left setting a r asked left_then regs y (full_there x) = full_there x
@@ -109,6 +109,7 @@ module _ (setting : Setting) (placed : IsPlaced setting) (s : FormScope) (d m n 
           (stopped (record {
             because = refl;
             printed = subst (λ ps. IsPrefix ps p.z.state.printed) (sym p.begins.call.things.represents.printed) (same_prefix p.z.state.printed);
+            paid = λ ended. absurd (ended refl);
           }))
       by (suc j) same =
           subst (λ r. LoopEnds setting turn_credit (start_at setting s d n size t p) r (levels setting.procedures setting.turns_each (suc j) (again the_loop p.regs) p.y))
@@ -326,7 +327,7 @@ module _ (setting : Setting) (placed : IsPlaced setting) (s : FormScope) (d m n 
             let few = leb-false 8 (left p.y.arena) same in
             subst (λ q. LoopEnds setting turn_credit a result (mid_go_on q step_next))
             (sym (record_wanting c (d + 1) record_words (d + 7) (code_of inside_steps) (code_of (turn_landed d)) p.regs p.y few))
-            (no_words_left setting {c1 = 0} a result 8 (left p.y.arena) p.regs (mid_charged record_cost p.y) (no_words setting a record_cost result grown (omega (arith, enough)) few))
+            (no_words_left setting a result 8 (left p.y.arena) p.regs (mid_charged record_cost p.y) (no_words setting a record_cost (omega arith) result grown (omega (arith, enough)) few))
 
 pub turns_law : LawOfTurns
 turns_law setting s d m n size k turns all placed known wide enough small fewer segments_here below_here p e i begins =

@@ -11,7 +11,7 @@ use Rattle.mid_code.specs.Costs.{record_cost}
 use Rattle.mid_code.specs.Law.{Grown}
 use Rattle.mid_code.specs.Meaning.{Context, exec, exec_step}
 use Rattle.mid_code.specs.MidCode.{MidStep, with_block, code_of}
-use Rattle.mid_code.specs.State.{Registers, register, MidState, MidOutcome, Next, landed}
+use Rattle.mid_code.specs.State.{Registers, register, no_level, MidState, MidOutcome, Next, landed}
 use Rattle.mid_code.specs.State.{go_on as mid_go_on}
 use Rattle.mid_code.proofs.Growth.{go_on_grown, landed_grown, same_grown, exec_grown, levels_grow, turns_grow, after_inside_grown, run_landing_grown}
 use Rattle.mid_arena.proofs.Running.{in_two_parts, go_on_twice}
@@ -27,7 +27,7 @@ use Rattle.back_relation.specs.Room.{routine_words, words_for}
 use Rattle.back_relation.specs.Worlds.{World, LandsIn, for_cleanup, Standing}
 use Rattle.back_relation.specs.Around.{AroundStands}
 use Rattle.back_relation.specs.Activation.{NoSlot, inside_cleanup, in_cleanup}
-use Rattle.back_relation.specs.Ends.{AreFew, Transfers, Ends, done, left_by, full_there, stopped, few_turns}
+use Rattle.back_relation.specs.Ends.{AreFew, Transfers, Stopped, Ends, done, left_by, full_there, stopped, few_turns}
 use Rattle.back_relation.specs.Forms.{Begins, context_at, code_at}
 use Rattle.back_relation.specs.Points.{Point, start_at, value_steps, Here}
 use Rattle.back_relation.specs.Starts.{FlatGrown, Start, FellFrom, ReachedFrom, LeftFrom, EndsAt}
@@ -36,6 +36,7 @@ use Rattle.back_relation.proofs.FormGrowth.{form_grows}
 use Rattle.back_relation.proofs.Growth.{same_flat, both_prefix, both_flat, then_value}
 use Rattle.back_relation.proofs.Parts.{go_on_falls, go_on_last, step_then}
 use Rattle.back_relation.proofs.Starts.{start_charged, ends_sparing, ends_spared, scope_later}
+use Rattle.back_relation.proofs.Stops.{stopped_before}
 use Rattle.back_relation.proofs.Then.{same_world, stopped_last}
 use Rattle.back_relation.proofs.Worlds.{around_again, word_later}
 use Rattle.back_exits.specs.Inside.{around_with, around_at, address_inside, record_inside, LaidAt}
@@ -57,13 +58,13 @@ use Rattle.back_exits.proofs.Scopes.{scope_mapped, exits_inside}
 
 -- the same ends, with other words for what was done, for what a transfer leaves, and for few turns
 ends_so :
-    {D D' L L' : Type 0} {setting : Setting} {turns : ℕ} {z z' : FlatState} {y y' : MidState} {r : FlatEvaluated} {q : MidOutcome} → (D → D') → (L → L') → (AreFew turns z y r.state → AreFew turns z' y' r.state)
-    → Ends setting D L turns z y r q → Ends setting D' L' turns z' y' r q
-ends_so f g h (done x) = done (f x)
-ends_so f g h (left_by x) = left_by (g x)
-ends_so f g h (full_there x) = full_there x
-ends_so f g h (stopped x) = stopped x
-ends_so f g h (few_turns x) = few_turns (h x)
+    {D D' L L' : Type 0} {setting : Setting} {c c' turns : ℕ} {z z' : FlatState} {y y' : MidState} {r : FlatEvaluated} {q : MidOutcome} → (D → D') → (L → L') → (Stopped setting c z y r q → Stopped setting c' z' y' r q)
+    → (AreFew turns z y r.state → AreFew turns z' y' r.state) → Ends setting c D L turns z y r q → Ends setting c' D' L' turns z' y' r q
+ends_so f g s h (done x) = done (f x)
+ends_so f g s h (left_by x) = left_by (g x)
+ends_so f g s h (full_there x) = full_there x
+ends_so f g s h (stopped x) = stopped (s x)
+ends_so f g s h (few_turns x) = few_turns (h x)
 
 module _ (setting : Setting) (placed : IsPlaced setting) (m size k : ℕ) (f cleanup : FlatForm) (a : Start setting) (wide : a.d + 8 ≤ length a.regs) (size_is : length a.regs ≡ size) (enough : 8 + m ≤ a.n)
     (enough_words : routine_words ≤ a.n) (goes : TransferGoes setting k a.turns) (f_here : Here setting (inside_cleanup a.s) (a.d + 6) m size k a.turns f)
@@ -217,7 +218,7 @@ module _ (setting : Setting) (placed : IsPlaced setting) (m size k : ℕ) (f cle
           ∙ in_two_parts c cleanup_steps (end_steps setting a.d) (g3 setting placed k a.turns a laid m begins wide came ran x) (y3 setting placed k a.turns a laid m begins wide came ran x)))
           (part_then setting (λ r q. FellFrom setting 1000 a a.d r q) 1000 1000 a a.d rc qc (λ w s. gives x.result s) (λ g y. exec c (code_of (end_steps setting a.d)) g y) (omega arith) (omega arith)
           (λ v s. same_flat s) (λ g y. code_grown (end_steps setting a.d) g y)
-          (ends_so (λ (d : FellFrom setting 0 o3 (a.d + 3) rc qc). d) left3 few3 cleaned_here)
+          (ends_so (λ (d : FellFrom setting 0 o3 (a.d + 3) rc qc). d) left3 (stopped_before setting (omega (arith, came3.paid))) few3 cleaned_here)
           (λ xc.
           subst (λ p. Whole p (mid_go_on qc (λ g y. exec c (code_of (end_steps setting a.d)) g y))) (sym (then_value rc (λ w s. gives x.result s) xc.result xc.outcome))
           (subst (λ q. Whole (gives x.result rc.state) q) (sym (go_on_falls qc (λ g y. exec c (code_of (end_steps setting a.d)) g y) xc.end))
@@ -314,7 +315,7 @@ module _ (setting : Setting) (placed : IsPlaced setting) (m size k : ℕ) (f cle
           ∙ in_two_parts c cleanup_steps (end_steps setting a.d) h4 s4))
           (part_then setting (λ r q. FellFrom setting 1000 a a.d r q) 1000 1000 a a.d rd qd (λ w s. leaves l.exit_number l.result l.landing s) (λ g y. exec c (code_of (end_steps setting a.d)) g y) (omega arith) (omega arith)
           (λ v s. same_flat s) (λ g y. code_grown (end_steps setting a.d) g y)
-          (ends_so (λ (d : FellFrom setting 0 o4 (a.d + 3) rd qd). d) left4 few4 cleaned_there)
+          (ends_so (λ (d : FellFrom setting 0 o4 (a.d + 3) rd qd). d) left4 (stopped_before setting (omega (arith, came4.paid))) few4 cleaned_there)
           (λ xc.
           subst (λ p. Whole4 p (mid_go_on qd (λ g y. exec c (code_of (end_steps setting a.d)) g y))) (sym (then_value rd (λ w s. leaves l.exit_number l.result l.landing s) xc.result xc.outcome))
           (subst (λ q. Whole4 (leaves l.exit_number l.result l.landing rd.state) q) (sym (go_on_falls qd (λ g y. exec c (code_of (end_steps setting a.d)) g y) xc.end))
@@ -351,7 +352,13 @@ module _ (setting : Setting) (placed : IsPlaced setting) (m size k : ℕ) (f cle
         subst (λ q. EndsAt setting 1000 a (result came) q)
         (sym (ap (λ q. mid_go_on q after_step) (stop_passes (length a.y.arena.blocks) behind landing setting came ran ran.end refl x.because)
         ∙ go_on_last ran.end ran after_step refl (stopped_last setting came ran.end x.because)))
-        (stopped (record { because = because_cleaned setting k cleanup a.env a.around came ran.end x.because; printed = both_prefix x.printed g.printed }))
+        (stopped (record {
+          because = because_cleaned setting k cleanup a.env a.around came ran.end x.because;
+          printed = both_prefix x.printed g.printed;
+          paid = λ ended.
+              let paid = x.paid (λ none. ended (because_cleaned setting k cleanup a.env a.around came no_level none)) in
+              omega (arith, paid, g.units, laid.paid, laid.units_there);
+        }))
     by_form (few_turns x) =
         let g = cleaned_grows setting k cleanup a.env a.around came in
         let same = laid.world.same_size in
@@ -374,7 +381,7 @@ module _ (setting : Setting) (placed : IsPlaced setting) (m size k : ℕ) (f cle
       by false same =
           let few = leb-false 8 (left a.y.arena) same in
           let wants = record_wanting c (a.d + 1) record_words a.d (code_of inside_steps) (code_of (landing_steps a.d)) a.regs a.y few in
-          subst (λ q. EndsAt setting 1000 a whole q) (sym (ap (λ q. mid_go_on q after_step) wants ∙ go_on_last _ _ after_step refl tt)) (no_words setting a record_cost whole grown (omega (arith, enough)) few)
+          subst (λ q. EndsAt setting 1000 a whole q) (sym (ap (λ q. mid_go_on q after_step) wants ∙ go_on_last _ _ after_step refl tt)) (no_words setting a record_cost (omega arith) whole grown (omega (arith, enough)) few)
 
   pub unwind_code_sim : EndsAt setting 1000 a whole (exec c (code_of (step ∷ behind_steps)) a.regs a.y)
   unwind_code_sim = subst (λ q. EndsAt setting 1000 a whole q) (sym (step_then c step behind_steps a.regs a.y)) unwind_step

@@ -10,6 +10,7 @@ use Rattle.back_relation.specs.Worlds.{World, Standing}
 use Rattle.back_relation.specs.Around.{RoomFor, CallBegins}
 use Rattle.back_relation.specs.Ends.{Around, CallEnds, landing_cost, done, left_by, full_there, stopped, few_turns}
 use Rattle.back_relation.specs.RoutineClaims.{TransferDoes}
+use Rattle.back_relation.proofs.Stops.{stopped_less}
 use Rattle.back_relation.proofs.Then.{transfers_less}
 use Rattle.back_exits.specs.Within.{transfer_words}
 use Rattle.back_exits.proofs.Transfer.{transfer_does}
@@ -41,7 +42,7 @@ module _ (setting : Setting) where
       })
   call_less enough few (left_by x) = left_by (record { transfer = transfers_less setting enough x.transfer; frame = x.frame })
   call_less enough few (full_there x) = full_there x
-  call_less enough few (stopped x) = stopped x
+  call_less enough few (stopped x) = stopped (stopped_less setting (omega (arith, enough)) x)
   call_less enough few (few_turns x) = few_turns (omega (arith, x, few))
 
   room_less : (l : Limit) (n n' : ℕ) (z : base.State) (y : MidState) → n' ≤ n → RoomFor l n z y → RoomFor l n' z y

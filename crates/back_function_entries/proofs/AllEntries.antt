@@ -46,7 +46,7 @@ use Rattle.back_relation.specs.Ends.{WorldKept, Around, SparingCall}
 use Rattle.back_relation.specs.Forms.{context_at, code_at}
 use Rattle.back_relation.specs.Procedures.{called, as_registers, mean_inside, body_room, body_credit, IsFunction, CapturedFits, ExtraGiven, BodyDoes, ArgumentsGiven, CalledFits}
 use Rattle.back_relation.specs.Chains.{ChainAt, ChainTakes}
-use Rattle.back_relation.specs.RoutineClaims.{list_credit, argument_credit, level_credit, entry_spare, LevelThere, ListThere, MethodKept}
+use Rattle.back_relation.specs.RoutineClaims.{list_credit, argument_credit, level_credit, entry_spare, LevelThere, ListThere, MethodKept, no_words_cost}
 use Rattle.back_relation.specs.Placed.{IsPlaced}
 use Rattle.back_relation.proofs.Activations.{made_by_later}
 use Rattle.back_relation.proofs.Starts.{room_after}
@@ -518,8 +518,8 @@ module _ (setting : Setting) (number : ℕ) (extra : Extra) (q : FlatProcedure) 
           (subst (λ p. SparingCall setting kept_paid m rs valid w around x y (go_on kept_record (λ v a. meant a)) p) (sym run)
           (going_on_law setting 18 kept_behind kept_paid m m rs valid w w around (charged 1 x) (charged 1 x) y y6 (go_on kept_record (λ v a. meant a))
           (mid_go_on (exec_step c keep_call regs5 y6) jumping) (world_both setting 1 twice_world) (around_both setting 1 twice_around) (omega arith) (omega arith) refl
-          (made_after setting Kept (λ t. nil) (λ t. t.start + 8) c kept_behind (n + entry_spare) m 3 (method_routine setting.at) (1 ∷ 2 ∷ 3 ∷ []) keep_words rs valid w around x y6 regs5
-          kept_record (λ v a. meant a) jumping words_there left_over (λ v a. grown_later (meant_later setting j q cs called_as variables around a)) (λ g1 x1. jumping_grows g1 x1)
+          (made_after setting Kept (λ t. nil) (λ t. t.start + 8) c no_words_cost kept_behind (n + entry_spare) m 3 (method_routine setting.at) (1 ∷ 2 ∷ 3 ∷ []) keep_words rs valid w around x y6 regs5
+          kept_record (λ v a. meant a) jumping words_there left_over (omega arith) (λ v a. grown_later (meant_later setting j q cs called_as variables around a)) (λ g1 x1. jumping_grows g1 x1)
           (λ t. ap (λ (e : FlatEvaluated). e.outcome) t.outcome) (λ t. t.end)
           (keeps rs valid w around x y7 called_there chain address chain_at takes_them (subst (λ us. ArgumentsGiven setting w y7.arena address us) (sym same_arguments) g.arguments)
           (fewer_begins routine_words reserve_there begins7))

@@ -48,6 +48,7 @@ use Rattle.back_relation.proofs.Fitting.{registers_front, registers_behind}
 use Rattle.back_relation.proofs.FormGrowth.{below_grows}
 use Rattle.back_relation.proofs.Levels.{meaning_below}
 use Rattle.back_relation.proofs.Starts.{room_after}
+use Rattle.back_relation.proofs.Stops.{stopped_before}
 use Rattle.back_relation.proofs.Straight.{world_cost, around_cost}
 use Rattle.back_relation.proofs.Then.{same_world, world_then, back_then, call_then, method_there_again}
 use Rattle.back_relation.proofs.Worlds.{stack_same}
@@ -466,7 +467,7 @@ module _ (setting : Setting) (right : ProgramIsRight setting) (k entry : ℕ) (e
             (sym e)
             (subst (λ o. CallEnds setting body_paid setting.turns_each rs valid w around (charged 1 z) y' (next z') o) (sym f) (made_ends w' z' regs' y2 m others))
         by (are_full x) = full_there x
-        by (are_stopped x) = stopped x
+        by (are_stopped x) = stopped (stopped_before setting (omega (arith, site.few)) x)
 
   -- where the body begins, before the unit that its form leaves something of
   before_unit :
@@ -499,7 +500,7 @@ module _ (setting : Setting) (right : ProgramIsRight setting) (k entry : ℕ) (e
       (called (code_at setting (suc k) turns) (body_of_procedure setting.at entry) (ws ++ more) y))
       sum
       (levels_entered setting (suc k) turns (body_of_procedure setting.at entry) setting.turns_each (body_room q) (words_for setting.names setting.program q.body) body_paid p (ws ++ more) rs
-      valid w around (charged 1 z) y (mean_inside (context_at setting (suc k)) q cs called_as vs around z) stands.there refl all_count (let paid = stands.paid in omega (arith, paid)) grown.printed (begins_recounted setting (z.state.units + 1) b.call) (λ e. absurd (cc e))
+      valid w around (charged 1 z) y (mean_inside (context_at setting (suc k)) q cs called_as vs around z) stands.there refl all_count (let paid = stands.paid in omega (arith, paid)) grown.printed (λ ended. omega (arith, grown.units)) (begins_recounted setting (z.state.units + 1) b.call) (λ e. absurd (cc e))
       (λ j e.
       let same : k ≡ j = omega (arith, e) in
       subst

@@ -205,7 +205,7 @@ module _ (setting : Setting) (placed : IsPlaced setting) (k n room d t : ℕ) {w
   -- **a cons**, and what goes on with it
   module _ (rest : Steps) (next : Value → FlatState → FlatEvaluated) (grown : (v : Value) (z : FlatState) → FlatGrown z (next v z).state)
       (Whole : FlatEvaluated → MidOutcome → Type 0) (whole_full : (r : FlatEvaluated) (q : MidOutcome) → FullThere setting r q → Whole r q)
-      (whole_stopped : (r : FlatEvaluated) (q : MidOutcome) → Stopped setting r q → Whole r q)
+      (whole_stopped : (r : FlatEvaluated) (q : MidOutcome) → Stopped setting 0 z y r q → Whole r q)
       (goes_on : (some : 2 ≤ left y.arena) → has_room setting.limit (z.state.heap + z.state.stack + 2 + 0) ≡ true
       → Whole (next result (with_cons v tail z)) (exec c (code_of rest) cons_registers (cons_state some))) where
     abbrev outcome : MidOutcome
@@ -229,6 +229,7 @@ module _ (setting : Setting) (placed : IsPlaced setting) (k n room d t : ℕ) {w
               printed =
                   subst (λ p. IsPrefix p (next result (with_cons v tail z)).state.state.printed) (sym things.represents.printed)
                   (grown result (with_cons v tail z)).printed;
+              paid = λ ended. let up = (grown result (with_cons v tail z)).units in omega (arith, up);
             }))
 
         by : (b : Bool) → has_room setting.limit (z.state.heap + z.state.stack + 2 + 0) ≡ b → Whole (make setting.limit 2 0 (cons v tail) z next) outcome

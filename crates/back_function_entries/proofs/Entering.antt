@@ -29,14 +29,14 @@ use Rattle.back_relation.specs.Forms.{code_at}
 use Rattle.back_relation.specs.Procedures.{called}
 use Rattle.back_calling.specs.Entering.{Inside}
 use Rattle.back_calling.proofs.Framing.{frame_back}
-use Rattle.back_calling.proofs.Entered.{framed, leaves_printed, leaves_because, things_same_words, inside_begins, with_room, without_room, used_at, called_by}
+use Rattle.back_calling.proofs.Entered.{framed, leaves_printed, leaves_because, things_same_words, inside_begins, with_room, without_room, used_at, called_by, leaves_costs}
 use Rattle.back_calling.proofs.Storing.{some_words}
 use Rattle.back_function_entries.specs.Making.{Makes}
 
 -- ---- the frame is given back
 
 module _ (setting : Setting) (p : MidProcedure) {w : World} {z : FlatState} {y : MidState} (t : Things setting w z y) (some : p.frame ≤ left y.arena) {rs valid : List Standing} {around : DynamicContext}
-    {inside : ℕ} (i : Inside setting rs valid inside (entry_cost p.parameters) w around z y (entered p y)) (most m : ℕ) (says : ℕ → World → Type 0) (r : FlatEvaluated) (q : MidOutcome) where
+    {inside : ℕ} (i : Inside setting rs valid inside (entry_cost p.parameters) w around z y (entered p y)) (stop most m : ℕ) (says : ℕ → World → Type 0) (r : FlatEvaluated) (q : MidOutcome) where
   abbrev inner : MidState
   inner = entered p y
 
@@ -47,7 +47,7 @@ module _ (setting : Setting) (p : MidProcedure) {w : World} {z : FlatState} {y :
   left_inside = left_with_new_block (frame_of p) t.represents.arena some
 
   abbrev Outside : MidOutcome → Type 0
-  Outside o = Ends setting (Makes setting (most + entry_cost p.parameters) says w z y r o) ⊥ m z y r o
+  Outside o = Ends setting (stop + entry_cost p.parameters) (Makes setting (most + entry_cost p.parameters) says w z y r o) ⊥ m z y r o
 
   made_outside : Makes setting most says w z inner r q → Outside (leaves y.arena.blocks q)
   made_outside x =
@@ -91,7 +91,7 @@ module _ (setting : Setting) (p : MidProcedure) {w : World} {z : FlatState} {y :
         said = x.said;
       }))
 
-  outside : Ends setting (Makes setting most says w z inner r q) ⊥ m z inner r q → Outside (leaves y.arena.blocks q)
+  outside : Ends setting stop (Makes setting most says w z inner r q) ⊥ m z inner r q → Outside (leaves y.arena.blocks q)
   outside (done x) = made_outside x
   outside (left_by x) = absurd x
   outside (full_there x) =
@@ -105,25 +105,26 @@ module _ (setting : Setting) (p : MidProcedure) {w : World} {z : FlatState} {y :
       stopped (record {
         because = leaves_because setting r y.arena.blocks q x.because;
         printed = subst (λ ps. IsPrefix ps r.state.state.printed) (sym (leaves_printed y.arena.blocks q)) x.printed;
+        paid = λ ended. omega (arith, x.paid ended, leaves_costs y.arena.blocks q, i.cost);
       })
   outside (few_turns x) = few_turns (let size = i.grows.heap.size in omega (arith, x, size))
 
 -- ---- the procedure
 
-module _ (setting : Setting) (room inside most m : ℕ) (p : MidProcedure) (ws : List ℕ) (rs valid : List Standing) (w : World) (around : DynamicContext) (z : FlatState) (y : MidState)
+module _ (setting : Setting) (room inside stop most m : ℕ) (p : MidProcedure) (ws : List ℕ) (rs valid : List Standing) (w : World) (around : DynamicContext) (z : FlatState) (y : MidState)
     (r : FlatEvaluated) (says : ℕ → World → Type 0) (k : ℕ) where
   abbrev Comes : MidOutcome → Type 0
-  Comes o = Ends setting (Makes setting (most + entry_cost p.parameters) says w z y r o) ⊥ m z y r o
+  Comes o = Ends setting (stop + entry_cost p.parameters) (Makes setting (most + entry_cost p.parameters) says w z y r o) ⊥ m z y r o
 
   -- what the body comes to, wherever its frame is laid
   abbrev pub BodyMakes : ℕ → Type 0
   BodyMakes n =
       (y' : MidState) → Inside setting rs valid inside (entry_cost p.parameters) w around z y y'
-      → Ends setting (Makes setting most says w z y' r (exec (code_at setting k n) (code_of p.body) (first_registers p.registers ws) y')) ⊥ m z y' r
+      → Ends setting stop (Makes setting most says w z y' r (exec (code_at setting k n) (code_of p.body) (first_registers p.registers ws) y')) ⊥ m z y' r
       (exec (code_at setting k n) (code_of p.body) (first_registers p.registers ws) y')
 
   module _ (f : ℕ) (within : f ≤ p.frame) (many : length ws ≡ p.parameters) (enough : p.frame + inside ≤ room) (grown : IsPrefix z.state.printed r.state.state.printed)
-      (b : CallBegins setting rs valid room w around z y) where
+      (units : z.state.units ≤ r.state.state.units) (b : CallBegins setting rs valid room w around z y) where
     runs : (n : ℕ) → BodyMakes n → Comes (run_procedure (code_at setting k n) (framed p f) ws y)
     runs n body = by (cases_lt (left y.arena) f)
       where
@@ -137,11 +138,12 @@ module _ (setting : Setting) (room inside most m : ℕ) (p : MidProcedure) (ws :
             (stopped (record {
               because = (room_ended setting.limit b.room b.things.within_limit few, few);
               printed = subst (λ ps. IsPrefix ps r.state.state.printed) (sym b.things.represents.printed) grown;
+              paid = λ ended. omega (arith, units);
             }))
         by (inr some) =
             let i = inside_begins setting (framed p f) b.things some {rs = rs} {valid = valid} {around = around} room inside (omega (arith, within, enough)) b in
             subst Comes (sym (with_room (code_at setting k n) (framed p f) ws y many some))
-            (outside setting (framed p f) b.things some i most m says r (exec (code_at setting k n) (code_of p.body) (first_registers p.registers ws) (entered (framed p f) y))
+            (outside setting (framed p f) b.things some i stop most m says r (exec (code_at setting k n) (code_of p.body) (first_registers p.registers ws) (entered (framed p f) y))
             (body (entered (framed p f) y) i))
 
     with_turns :
@@ -154,8 +156,8 @@ module _ (setting : Setting) (room inside most m : ℕ) (p : MidProcedure) (ws :
   -- **a routine that makes something**, by its number
   pub makes_with_turn :
       (n number : ℕ) → slice_get (lowered setting.names setting.at setting.program) number ≡ Some p → p.counted ≡ Turn → length ws ≡ p.parameters → p.frame + inside ≤ room
-      → m + 16 * z.state.units ≤ n + 50 + 16 * r.state.state.units → IsPrefix z.state.printed r.state.state.printed → CallBegins setting rs valid room w around z y
-      → ((j : ℕ) → n ≡ suc j → BodyMakes j) → Comes (called (code_at setting k n) number ws y)
-  makes_with_turn n number found counted many enough few grown b body =
+      → m + 16 * z.state.units ≤ n + 50 + 16 * r.state.state.units → IsPrefix z.state.printed r.state.state.printed → z.state.units ≤ r.state.state.units
+      → CallBegins setting rs valid room w around z y → ((j : ℕ) → n ≡ suc j → BodyMakes j) → Comes (called (code_at setting k n) number ws y)
+  makes_with_turn n number found counted many enough few grown units b body =
       let u = used_at _ setting.procedures number p setting.frames found in
-      subst Comes (sym (called_by setting k n number p ws y Turn counted u)) (with_turns u.frame u.within many enough grown b n few body)
+      subst Comes (sym (called_by setting k n number p ws y Turn counted u)) (with_turns u.frame u.within many enough grown units b n few body)

@@ -6,6 +6,7 @@ use Rattle.lang_meaning.specs.Prefixes.{IsPrefix}
 use Rattle.lang_meaning.specs.State.{DynamicContext, has_room, room_left}
 use Rattle.lang_meaning.specs.State as meaning
 use Rattle.lang_meaning.specs.Values.{Value, nil, object}
+use Rattle.lang_meaning.specs.Counts.{unit_cost}
 use Rattle.flat_language.specs.FlatSignals.{make_list}
 use Rattle.flat_language.specs.FlatState.{FlatState, FlatEvaluated, on_state, gives}
 use Rattle.mid_code.specs.declared.operation.Arithmetic.TheVariants as which
@@ -44,6 +45,7 @@ use Rattle.back_relation.specs.Starts.{FlatGrown}
 use Rattle.back_relation.proofs.Growth.{same_flat}
 use Rattle.back_relation.proofs.Parts.{go_on_last}
 use Rattle.back_relation.proofs.Starts.{room_after}
+use Rattle.back_relation.proofs.Stops.{stopped_before}
 use Rattle.back_relation.proofs.Straight.{world_cost, around_cost}
 use Rattle.back_relation.proofs.Then.{from_same, world_then}
 use Rattle.back_relation.proofs.Worlds.{word_later}
@@ -65,16 +67,16 @@ use Rattle.back_function_entries.proofs.Onto.{backwards, as_many_back, list_back
 -- ---- one thing after another
 
 module _ (setting : Setting) where
-  -- what the code comes to that makes a list of so many values, for at most so much
-  abbrev ComesTo : (most count m : ℕ) → World → FlatState → MidState → FlatEvaluated → MidOutcome → Type 0
-  ComesTo most count m w z y r q = Ends setting (Makes setting most (λ word w'. ListSays z r count word w') w z y r q) ⊥ m z y r q
+  -- what the code comes to that makes a list of so many values, for at most so much, and for so much where it stops
+  abbrev ComesTo : (stop most count m : ℕ) → World → FlatState → MidState → FlatEvaluated → MidOutcome → Type 0
+  ComesTo stop most count m w z y r q = Ends setting stop (Makes setting most (λ word w'. ListSays z r count word w') w z y r q) ⊥ m z y r q
 
   onward :
-      (cost before : ℕ) {c1 most count total all m m1 : ℕ} {w w1 : World} {z z1 : FlatState} {y y1 : MidState} {r : FlatEvaluated} {q : MidOutcome}
+      (cost before : ℕ) {stop1 stop c1 most count total all m m1 : ℕ} {w w1 : World} {z z1 : FlatState} {y y1 : MidState} {r : FlatEvaluated} {q : MidOutcome}
       → WorldKept setting w w1 z z1 y y1 → Around setting c1 z z1 y y1 → Grows y.arena y1.arena → y1.cost ≤ y.cost + cost → z1.frame ≡ z.frame
       → z.state.units + 2 * before ≤ z1.state.units → m + 16 * z.state.units ≤ m1 + 16 * z1.state.units → cost + most ≤ total → all ≤ before + count
-      → ComesTo most count m1 w1 z1 y1 r q → ComesTo total all m w z y r q
-  onward cost before {y = y} {y1 = y1} {q = q} k a grows paid frame units fewer enough many (done x) =
+      → stop1 + cost ≤ stop + unit_cost * (2 * before) → ComesTo stop1 most count m1 w1 z1 y1 r q → ComesTo stop total all m w z y r q
+  onward cost before {y = y} {y1 = y1} {q = q} k a grows paid frame units fewer enough many small (done x) =
       let same = from_same setting k a in
       done (record {
         word = x.word;
@@ -99,10 +101,10 @@ module _ (setting : Setting) where
           units = omega (arith, units, x.said.units, many);
         };
       })
-  onward cost before k a grows paid frame units fewer enough many (left_by x) = absurd x
-  onward cost before k a grows paid frame units fewer enough many (full_there x) = full_there x
-  onward cost before k a grows paid frame units fewer enough many (stopped x) = stopped x
-  onward cost before k a grows paid frame units fewer enough many (few_turns x) = few_turns (let size = k.same_size in omega (arith, x, size, fewer))
+  onward cost before k a grows paid frame units fewer enough many small (left_by x) = absurd x
+  onward cost before k a grows paid frame units fewer enough many small (full_there x) = full_there x
+  onward cost before k a grows paid frame units fewer enough many small (stopped x) = stopped (stopped_before setting (omega (arith, paid, units, small)) x)
+  onward cost before k a grows paid frame units fewer enough many small (few_turns x) = few_turns (let size = k.same_size in omega (arith, x, size, fewer))
 
 -- ---- the loop
 
@@ -124,7 +126,7 @@ module _ (setting : Setting) (placed : IsPlaced setting) (k n room : ℕ) where
   Goes vs =
       (t : ℕ) (w : World) (z : FlatState) (y : MidState) (low : ℕ) (tail : Value) (tail_word : ℕ) (r4 r5 : Option ℕ) → Things setting w z y → RoomFor setting.limit room z.state y
       → BackwardsAt w.places y.arena low vs → length vs ≤ 2 ^ 24 → word_of w.places tail ≡ Some tail_word
-      → ComesTo setting (26 + 112 * length vs) (length vs) (t + 18) w z y (meant vs tail z) (whole t (at_turn (low + 4 * length vs) (length vs) tail_word r4 r5) y)
+      → ComesTo setting 0 (26 + 112 * length vs) (length vs) (t + 18) w z y (meant vs tail z) (whole t (at_turn (low + 4 * length vs) (length vs) tail_word r4 r5) y)
 
   all_made : Goes []
   unfolding mid_go_on
@@ -134,7 +136,7 @@ module _ (setting : Setting) (placed : IsPlaced setting) (k n room : ℕ) where
       let run : RunsTo (code_at setting k n) (code_of (return_word 2 ∷ [])) regs (mid_charged 12 y) (ends (returns tail_word) regs (mid_charged 26 y)) =
       costing {n = y.cost + 26} (and_ends tt (return_ends refl)) (omega arith) in
       let back = around_cost setting {credit = 26} z y 26 (omega arith) in
-      subst (λ q. ComesTo setting (26 + 112 * 0) 0 (t + 18) w z y (gives tail z) q) (sym (ap (λ q. mid_go_on q behind) step.same ∙ run.same))
+      subst (λ q. ComesTo setting 0 (26 + 112 * 0) 0 (t + 18) w z y (gives tail z) q) (sym (ap (λ q. mid_go_on q behind) step.same ∙ run.same))
       (done (record {
         word = tail_word;
         end = refl;
@@ -174,7 +176,7 @@ module _ (setting : Setting) (placed : IsPlaced setting) (k n room : ℕ) where
     outcome = whole (suc t) (at_turn (low + 4 * suc (length vs)) (suc (length vs)) tail_word r4 r5) y
 
     abbrev Comes : FlatEvaluated → Type 0
-    Comes r = ComesTo setting (26 + 112 * suc (length vs)) (suc (length vs)) (suc t + 18) w z y r outcome
+    Comes r = ComesTo setting 0 (26 + 112 * suc (length vs)) (suc (length vs)) (suc t + 18) w z y r outcome
 
     below : x + 4 < 2 ^ 32
     below =
@@ -203,21 +205,22 @@ module _ (setting : Setting) (placed : IsPlaced setting) (k n room : ℕ) where
         (room_after setting.limit room room z (with_cons v tail z) y y1 (omega arith) back.charged roomy) (later_words low vs kept back grows at.2) (omega (arith, few))
         (made_is setting placed k t room things roomy v tail at.0.word tail_word at.0.of_value of_tail some) in
         let turned = turn_goes_on setting placed k t room things roomy v tail at.0.word tail_word at.0.of_value of_tail some x (length vs) at.0.stands below (omega (arith, few)) r4 r5 in
-        subst (λ q. ComesTo setting (26 + 112 * suc (length vs)) (suc (length vs)) (suc t + 18) w z y (meant vs (object (length z.state.store)) (with_cons v tail z)) q)
+        subst (λ q. ComesTo setting 0 (26 + 112 * suc (length vs)) (suc (length vs)) (suc t + 18) w z y (meant vs (object (length z.state.store)) (with_cons v tail z)) q)
         (sym (outcome_is ∙ ap (λ q. mid_go_on q behind) turned))
-        (onward setting 112 1 {m = suc t + 18} kept back grows (omega arith) refl (omega arith) (omega arith) (omega arith) (omega arith) inner)
+        (onward setting 112 1 {m = suc t + 18} kept back grows (omega arith) refl (omega arith) (omega arith) (omega arith) (omega arith) (omega arith) inner)
 
     cons_wanting : left y.arena < 2 → has_room setting.limit (z.state.heap + z.state.stack + 2 + 0) ≡ true → Comes (meant vs (object (length z.state.store)) (with_cons v tail z))
     cons_wanting wants fits =
         let r : FlatEvaluated = meant vs (object (length z.state.store)) (with_cons v tail z) in
         let turned = turn_wanting setting placed k t room things roomy v tail at.0.word tail_word at.0.of_value of_tail x (length vs) at.0.stands below (omega (arith, few)) r4 r5 wants in
-        subst (λ q. ComesTo setting (26 + 112 * suc (length vs)) (suc (length vs)) (suc t + 18) w z y r q)
+        subst (λ q. ComesTo setting 0 (26 + 112 * suc (length vs)) (suc (length vs)) (suc t + 18) w z y r q)
         (sym (outcome_is ∙ ap (λ q. mid_go_on q behind) turned ∙ go_on_last (no_room 2 (left y.arena)) (ends (no_room 2 (left y.arena)) (at_turn x (length vs) tail_word (Some 2) (Some at.0.word)) (record y { cost = y.cost + 78 })) behind refl tt))
         (stopped (record {
           because = (room_ended setting setting.limit r.outcome room 2 0 z y roomy fits (omega arith) wants, wants);
           printed =
               subst (λ p. IsPrefix p r.state.state.printed) (sym things.represents.printed)
               (meant_grows vs (object (length z.state.store)) (with_cons v tail z)).printed;
+          paid = λ ended. let up = (meant_grows vs (object (length z.state.store)) (with_cons v tail z)).units in omega (arith, up);
         }))
 
     one_turn : Comes (meant (v ∷ vs) tail z)
@@ -337,10 +340,10 @@ module _ (setting : Setting) (k turns : ℕ) (placed : IsPlaced setting) (rs val
       (room_after setting.limit room room z z y' y1 (omega arith) back.charged i.call.room) end.at (let few = end.few in omega (arith, few, count)) refl in
       subst (λ q. Comes vs y' (r_of vs) q) (sym (body_is setting placed k n address vs y' end.low end.sum))
       (subst (λ r. Comes vs y' r (whole setting placed k n 0 n (at_first setting placed k n address vs y' end.low end.sum (length (backwards vs))) y1)) (sym (meant_is vs))
-      (onward setting 38 0 {m = spare} world back (grows_same y'.arena t.represents.arena) (omega arith) refl (omega arith) (omega (arith, left_turns)) (omega (arith, count)) (omega (arith, count)) loops))
+      (onward setting 38 0 {m = spare} world back (grows_same y'.arena t.represents.arena) (omega arith) refl (omega arith) (omega (arith, left_turns)) (omega (arith, count)) (omega (arith, count)) (omega arith) loops))
     where
       Comes : List Value → MidState → FlatEvaluated → MidOutcome → Type 0
-      Comes vs y' r q = ComesTo setting (64 + 112 * length vs) (length vs) spare w z y' r q
+      Comes vs y' r q = ComesTo setting 38 (64 + 112 * length vs) (length vs) spare w z y' r q
 
   -- **the routine of lists**
   pub lists_make : ListDoes setting k turns rs valid w around z y
@@ -348,13 +351,13 @@ module _ (setting : Setting) (k turns : ℕ) (placed : IsPlaced setting) (rs val
       let grown : FlatGrown z (r_of vs).state =
       subst (λ (r : FlatEvaluated). FlatGrown z r.state) (sym (meant_is vs)) (conses_grow setting.limit (backwards vs) nil z (λ v after. gives v after) (λ v after. same_flat after)) in
       there vs
-      (makes_with_turn setting routine_words 0 (64 + 112 * length vs) spare (given setting) (address ∷ length vs ∷ []) rs valid w around z y (r_of vs) (says vs) k turns (list_routine setting.at)
-      ((numbers_law setting).routine 16 _ placed refl) refl refl (let small = given_small setting in omega (arith, small)) (let units = grown.units in omega (arith, units)) grown.printed b
+      (makes_with_turn setting routine_words 0 38 (64 + 112 * length vs) spare (given setting) (address ∷ length vs ∷ []) rs valid w around z y (r_of vs) (says vs) k turns (list_routine setting.at)
+      ((numbers_law setting).routine 16 _ placed refl) refl refl (let small = given_small setting in omega (arith, small)) (let units = grown.units in omega (arith, units)) grown.printed grown.units b
       (λ n e. body_makes n address vs given_there e))
     where
       there :
-          {q : MidOutcome} (vs : List Value) → ComesTo setting (64 + 112 * length vs + 32) (length vs) spare w z y (r_of vs) q
-          → Ends setting (ListThere setting k turns rs valid w around z y (list_credit (length vs)) (r_of vs) q) ⊥ spare z y (r_of vs) q
+          {q : MidOutcome} (vs : List Value) → ComesTo setting (38 + 32) (64 + 112 * length vs + 32) (length vs) spare w z y (r_of vs) q
+          → Ends setting (list_credit (length vs)) (ListThere setting k turns rs valid w around z y (list_credit (length vs)) (r_of vs) q) ⊥ spare z y (r_of vs) q
       there vs (done x) =
           done (record {
             returned = record {
@@ -372,7 +375,7 @@ module _ (setting : Setting) (k turns : ℕ) (placed : IsPlaced setting) (rs val
           })
       there vs (left_by x) = absurd x
       there vs (full_there x) = full_there x
-      there vs (stopped x) = stopped x
+      there vs (stopped x) = stopped (stopped_before setting (omega arith) x)
       there vs (few_turns x) = few_turns x
 
 -- **lists are made**

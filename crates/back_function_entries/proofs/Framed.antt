@@ -84,5 +84,5 @@ module _ (setting : Setting) (a : Start setting) (size u : ℕ) (r : FlatEvaluat
         registers = f.registers;
       })
   form_framed enough (full_there x) = full_there (record { asked = x.asked; left_then = x.left_then; outcome = x.outcome; printed = x.printed })
-  form_framed enough (stopped x) = stopped (record { because = x.because; printed = x.printed })
+  form_framed enough (stopped x) = stopped (record { because = x.because; printed = x.printed; paid = λ ended. omega (arith, enough, x.paid ended) })
   form_framed enough (few_turns x) = few_turns (omega (arith, x))

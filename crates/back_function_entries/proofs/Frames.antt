@@ -139,7 +139,7 @@ module _ (setting : Setting) where
       by (stopped x) =
           subst (λ p. CallEnds setting (credit + return_cost) m rs valid w around z y (with_frame z.frame r) p)
           (sym (go_on_last q.end q next refl (stopped_last setting r q.end x.because)))
-          (stopped (record { because = x.because; printed = x.printed }))
+          (stopped (record { because = x.because; printed = x.printed; paid = λ ended. omega (arith, x.paid ended) }))
       by (few_turns x) = few_turns x
 
 -- ---- another site

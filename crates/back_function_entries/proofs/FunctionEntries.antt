@@ -111,7 +111,8 @@ module _ (setting : Setting) where
   without_level c1 c2 e (done x) = absurd (cc (sym x.outcome ∙ e))
   without_level c1 c2 e (left_by x) = absurd (cc (sym x.transfer.outcome ∙ e))
   without_level c1 c2 e (full_there x) = full_there x
-  without_level c1 c2 e (stopped x) = stopped x
+  without_level c1 c2 e (stopped x) =
+      stopped (record { because = x.because; printed = x.printed; paid = λ ended. absurd (ended e) })
   without_level c1 c2 e (few_turns x) = few_turns x
 
   -- ---- the code of an entry
@@ -311,7 +312,7 @@ module _ (setting : Setting) where
         let later = meant_later j q cs called_as vs around z1 in
         let grown = grown_later later in
         turns_entered setting (suc j) turns number turns (entry_words + body_words q) (body_room q) (credit_inside (body_credit q)) (made number extra q) entry_given rs valid w around (charged 1 z1) y
-        (meant j q cs called_as vs around z1) (found number extra q placed function) refl refl (omega arith) (omega (arith, grown.units)) grown.printed (begins_recounted setting (z1.state.units + 1) begins)
+        (meant j q cs called_as vs around z1) (found number extra q placed function) refl refl (omega arith) (omega (arith, grown.units)) grown.printed (λ ended. omega (arith, grown.units)) (begins_recounted setting (z1.state.units + 1) begins)
         (λ i e y' here.
         inside_ends number extra q no_rest keeps_none rs valid vs self chain address w around many (suc j) i turns (body_credit q) (charged 1 z1) y' (meant j q cs called_as vs around z1) here.call.things
         (values_inside y' here.words)
@@ -352,7 +353,7 @@ module _ (setting : Setting) where
         let enough = reserve.enough in
         without_level (credit_inside 0 + entry_cost 4) (entry_credit (length vs)) refl
         (turns_entered setting zero turns number turns reserve.count 0 (credit_inside 0) (made number extra q) entry_given rs valid w around (charged 1 z) y r (found number extra q placed function) refl refl
-        (omega (arith, enough)) (omega arith) (same_flat z).printed (begins_recounted setting (z.state.units + 1) reserve.call)
+        (omega (arith, enough)) (omega arith) (same_flat z).printed (λ ended. absurd (ended refl)) (begins_recounted setting (z.state.units + 1) reserve.call)
         (λ i e y' here.
         inside_ends number extra q no_rest keeps_none rs valid vs self chain address w around many zero i turns 0 (charged 1 z) y' r here.call.things (values_inside y' here.words)
         (λ ws paid of_values.

@@ -31,6 +31,7 @@ use Rattle.back_relation.specs.Starts.{FlatGrown, Start, EndsAt, ReachedFrom}
 use Rattle.back_relation.proofs.Activations.{activation_later}
 use Rattle.back_relation.proofs.Fitting.{registers_front, registers_behind}
 use Rattle.back_relation.proofs.Starts.{room_after}
+use Rattle.back_relation.proofs.Stops.{stopped_before, stopped_less}
 use Rattle.back_relation.proofs.Straight.{world_cost, around_cost}
 use Rattle.back_relation.proofs.Then.{same_world, world_then, back_then, ends_then}
 use Rattle.back_relation.proofs.Worlds.{word_later}
@@ -45,8 +46,7 @@ pub nil_names : (d t size : ℕ) → enough_for (of_code (code_of (list_of 0 d t
 nil_names d t size h = omega (arith, h)
 
 module _ (setting : Setting) (placed : IsPlaced setting) (k n room t : ℕ) (Whole : FlatEvaluated → MidOutcome → Type 0)
-    (whole_full : (r : FlatEvaluated) (q : MidOutcome) → FullThere setting r q → Whole r q)
-    (whole_stopped : (r : FlatEvaluated) (q : MidOutcome) → Stopped setting r q → Whole r q) where
+    (whole_full : (r : FlatEvaluated) (q : MidOutcome) → FullThere setting r q → Whole r q) where
   abbrev c : Context
   c = code_at setting k n
 
@@ -55,13 +55,14 @@ module _ (setting : Setting) (placed : IsPlaced setting) (k n room t : ℕ) (Who
       (ws : List ℕ) (d : ℕ) (w : World) (z : FlatState) (regs : Registers) (y : MidState) (rest : Steps) (next : Value → FlatState → FlatEvaluated)
       → ((v : Value) (z : FlatState) → FlatGrown z (next v z).state) → Things setting w z y → RoomFor setting.limit room z.state y → WordsOf w.places vs ws → WordsIn d ws regs
       → d + length ws ≤ t → enough_for (of_code (code_of (list_of (length ws) d t))) ≤ length regs
+      → ((r : FlatEvaluated) (q : MidOutcome) → Stopped setting list_credit z y r q → Whole r q)
       → ((list : Value) (w' : World) (z' : FlatState) (regs' : Registers) (y' : MidState) → ListMade setting t list w w' z z' regs regs' y y'
       → Whole (next list z') (exec c (code_of rest) regs' y'))
       → Whole (make_list setting.limit vs z next) (exec c (code_of (list_of (length ws) d t ++ rest)) regs y)
 
   nothing_listed : Goes []
-  nothing_listed (x ∷ ws) d w z regs y rest next grown things h is inside fits there goes_on = absurd is
-  nothing_listed [] d w z regs y rest next grown things h is inside fits there goes_on =
+  nothing_listed (x ∷ ws) d w z regs y rest next grown things h is inside fits there whole_stopped goes_on = absurd is
+  nothing_listed [] d w z regs y rest next grown things h is inside fits there whole_stopped goes_on =
       let run = and_then {c = c} {rs = regs} {z = y} constant_falls (record { same = refl }) in
       subst (λ q. Whole (next nil z) q) (sym run.same)
       (goes_on nil w z (slice_set regs t (Some nil_word)) (mid_charged 6 y)
@@ -79,11 +80,11 @@ module _ (setting : Setting) (placed : IsPlaced setting) (k n room t : ℕ) (Who
       }))
 
   one_more : (v : Value) (vs : List Value) → Goes vs → Goes (v ∷ vs)
-  one_more v vs goes [] d w z regs y rest next grown things h is inside fits there goes_on = absurd is
-  one_more v vs goes (word ∷ ws) d w z regs y rest next grown things h is inside fits there goes_on =
+  one_more v vs goes [] d w z regs y rest next grown things h is inside fits there whole_stopped goes_on = absurd is
+  one_more v vs goes (word ∷ ws) d w z regs y rest next grown things h is inside fits there whole_stopped goes_on =
       subst (λ ss. Whole (make_list setting.limit (v ∷ vs) z next) (exec c (code_of ss) regs y)) (sym (append_assoc front (cons_steps d t) rest))
       (goes ws (d + 1) w z regs y (cons_steps d t ++ rest) (λ tail after. make setting.limit 2 0 (cons v tail) after next)
-      (λ tail after. cons_grows setting.limit v tail after next grown) things h is.1 inside.1 (omega (arith, fits)) (registers_front front (cons_steps d t) (length regs) there)
+      (λ tail after. cons_grows setting.limit v tail after next grown) things h is.1 inside.1 (omega (arith, fits)) (registers_front front (cons_steps d t) (length regs) there) whole_stopped
       (λ tail w1 z1 regs1 y1 m. with_tail tail w1 z1 regs1 y1 m))
     where
       front : Steps
@@ -100,7 +101,8 @@ module _ (setting : Setting) (placed : IsPlaced setting) (k n room t : ℕ) (Who
           let roomy : RoomFor setting.limit room z1.state y1 = room_after setting.limit room room z z1 y y1 (omega arith) m.back.charged h in
           let of_first : word_of w1.places v ≡ Some word = word_later m.world.later v word is.0 in
           let first : register d regs1 ≡ Some word = ap word_in (m.below d low) ∙ inside.0 in
-          cons_goes_on setting placed k n room d t m.world.things roomy v tail word m.word of_first m.of_value regs1 low top first m.in_register rest next grown Whole whole_full whole_stopped
+          cons_goes_on setting placed k n room d t m.world.things roomy v tail word m.word of_first m.of_value regs1 low top first m.in_register rest next grown Whole whole_full
+          (λ r q f. whole_stopped r q (stopped_before setting (omega (arith, m.back.paid)) f))
           (λ some room_there.
           goes_on (result setting placed k n room d t m.world.things roomy v tail word m.word of_first m.of_value regs1 low top first m.in_register)
           (cons_world setting placed k n room d t m.world.things roomy v tail word m.word of_first m.of_value regs1 low top first m.in_register) (with_cons v tail z1)
@@ -130,8 +132,8 @@ module _ (setting : Setting) (placed : IsPlaced setting) (k n room t : ℕ) (Who
 
 pub lists_law : LawOfMadeLists
 lists_law setting k n room vs ws d t w z regs y rest next placed things h is inside fits there grown =
-    lists_go_on setting placed k n room t (λ r q. ListEnd setting t w z regs y next (λ g x. exec (code_at setting k n) (code_of rest) g x) r q) (λ r q f. no_words f) (λ r q f. no_space f) vs
-    ws d w z regs y rest next grown things h is inside fits there (λ list w' z' regs' y' m. made list w' z' regs' y' m refl refl)
+    lists_go_on setting placed k n room t (λ r q. ListEnd setting t w z regs y next (λ g x. exec (code_at setting k n) (code_of rest) g x) r q) (λ r q f. no_words f) vs
+    ws d w z regs y rest next grown things h is inside fits there (λ r q f. no_space f) (λ list w' z' regs' y' m. made list w' z' regs' y' m refl refl)
 
 -- from a point of an activation, which goes on standing
 reached_list :
@@ -151,7 +153,7 @@ reached_list setting a t list w' z' regs' y' low m = record {
 pub lists_at_law : LawOfListsAt
 lists_at_law setting k credit a vs ws d t rest next placed is inside low fits there grown goes_on =
     lists_go_on setting placed k a.turns (a.n + words_for_handler * length a.around.handlers) t (λ r q. EndsAt setting (list_credit + credit) a r q) (λ r q f. full_there f)
-    (λ r q f. stopped f) vs ws d a.w a.z a.regs a.y rest next grown a.begins.call.things a.begins.call.room is inside fits there
+    vs ws d a.w a.z a.regs a.y rest next grown a.begins.call.things a.begins.call.room is inside fits there (λ r q f. stopped (stopped_less setting (omega arith) f))
     (λ list w' z' regs' y' m.
     let reached = reached_list setting a t list w' z' regs' y' (omega (arith, low, fits)) m in
     ends_then setting {d = a.d} {d1 = a.d} (omega arith) reached {c2 = credit} {c = list_credit + credit} (omega arith) m.up

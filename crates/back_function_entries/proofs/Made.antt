@@ -10,7 +10,7 @@ use Rattle.flat_language.specs.FlatState.{FlatState, FlatEvaluated, gives, go_on
 use Rattle.mid_code.specs.Law.{Grown}
 use Rattle.mid_code.specs.Meaning.{Context, exec_step}
 use Rattle.mid_code.specs.Meaning.{called as mid_called}
-use Rattle.mid_code.specs.State.{Registers, returns, falls, ends, MidState, MidOutcome, Next}
+use Rattle.mid_code.specs.State.{Registers, returns, falls, ends, MidState, MidOutcome, Next, no_level}
 use Rattle.mid_code.specs.State.{charged as mid_charged, go_on as mid_go_on}
 use Rattle.mid_code.proofs.Growth.{go_on_grown, same_grown}
 use Rattle.back_lowering.specs.Steps.{call}
@@ -25,7 +25,7 @@ use Rattle.back_relation.proofs.Parts.{go_on_falls, go_on_last}
 use Rattle.back_relation.proofs.Straight.{world_cost, around_cost}
 use Rattle.back_relation.proofs.Then.{world_then, back_then, stopped_last, because_then}
 use Rattle.back_calling.specs.Calling.{WordsIn, call_cost}
-use Rattle.back_calling.proofs.Formed.{called_state, called_returned, called_because, call_comes}
+use Rattle.back_calling.proofs.Formed.{called_state, called_returned, called_because, call_comes, called_costs}
 use Rattle.back_calling.proofs.Inner.{going_on_law}
 use Rattle.back_calling.proofs.Units.{world_both, around_both}
 
@@ -100,17 +100,17 @@ pub record MadeBy (setting : Setting) (credit : ℕ) (w w' : World) (v : Value) 
 
 -- **a routine is called that makes something**, and what all comes to where it did
 pub made_after :
-    (setting : Setting) (There : Type 0) (value_of : There → Value) (word_of : There → ℕ) (c : Context) (credit m1 m t number : ℕ)
+    (setting : Setting) (There : Type 0) (value_of : There → Value) (word_of : There → ℕ) (c : Context) (c1 credit m1 m t number : ℕ)
     (arguments ws : List ℕ) (rs valid : List Standing) (w : World) (around : DynamicContext) (z : FlatState) (y : MidState) (regs : Registers) (r : FlatEvaluated)
     (f : Value → FlatState → FlatEvaluated) (next : Next)
-    → WordsIn regs arguments ws → m + 16 ≤ m1
+    → WordsIn regs arguments ws → m + 16 ≤ m1 → c1 + call_cost arguments ≤ credit
     → ((v : Value) (x : FlatState) → FlatGrown x (f v x).state) → ((g : Registers) (x : MidState) → Grown x (next g x).state)
     → ((x : There) → r.outcome ≡ value (value_of x)) → ((x : There) → (after c number arguments ws y).end ≡ returns (word_of x))
-    → Ends setting There ⊥ m1 z (mid_charged (call_cost arguments) y) r (after c number arguments ws y)
+    → Ends setting c1 There ⊥ m1 z (mid_charged (call_cost arguments) y) r (after c number arguments ws y)
     → ((x : There)
     → SparingCall setting credit m rs valid w around z y (f (value_of x) r.state) (next (slice_set regs t (Some (word_of x))) (after c number arguments ws y).state))
     → SparingCall setting credit m rs valid w around z y (go_on r f) (mid_go_on (exec_step c (call t number arguments) regs y) next)
-made_after setting There value_of word_of c credit m1 m t number arguments ws rs valid w around z y regs r f next there fewer flat_grown grown outcome end e h =
+made_after setting There value_of word_of c c1 credit m1 m t number arguments ws rs valid w around z y regs r f next there fewer enough flat_grown grown outcome end e h =
     subst (λ p. SparingCall setting credit m rs valid w around z y (go_on r f) p) (sym (ap (λ p. mid_go_on p next) (call_comes c regs y t number arguments ws there))) (cases e)
   where
     flat_later : FlatGrown r.state (go_on r f).state
@@ -121,7 +121,7 @@ made_after setting There value_of word_of c credit m1 m t number arguments ws rs
         go_on_grown (mid_called (after c number arguments ws y) t regs) next (mid_called (after c number arguments ws y) t regs).state
         (same_grown (mid_called (after c number arguments ws y) t regs).state) grown
 
-    cases : Ends setting There ⊥ m1 z (mid_charged (call_cost arguments) y) r (after c number arguments ws y)
+    cases : Ends setting c1 There ⊥ m1 z (mid_charged (call_cost arguments) y) r (after c number arguments ws y)
         → SparingCall setting credit m rs valid w around z y (go_on r f) (mid_go_on (mid_called (after c number arguments ws y) t regs) next)
     cases (done x) =
         subst (λ p. SparingCall setting credit m rs valid w around z y p (mid_go_on (mid_called (after c number arguments ws y) t regs) next)) (sym (then_value r f (value_of x) (outcome x)))
@@ -149,6 +149,8 @@ made_after setting There value_of word_of c credit m1 m t number arguments ws rs
           because = because_then setting r f (mid_called (after c number arguments ws y) t regs).end flat_later because;
           printed =
               both_prefix (subst (λ (s : MidState). IsPrefix s.printed r.state.state.printed) (sym (called_state (after c number arguments ws y) t regs)) x.printed) flat_later.printed;
+          paid = λ ended.
+              omega (arith, enough, x.paid (λ none. ended (because_then setting r f no_level flat_later none)), flat_later.units, called_costs (after c number arguments ws y) t regs);
         }))
     cases (few_turns x) = few_turns (omega (arith, x, fewer, flat_later.units))
 
@@ -160,13 +162,13 @@ pub made_then :
     → WordsIn regs arguments ws → Things setting w z y → c1 + call_cost arguments + c2 ≤ credit → m + 16 ≤ m1 → z.state.units ≤ r.state.state.units
     → ((v : Value) (x : FlatState) → FlatGrown x (f v x).state) → ((g : Registers) (x : MidState) → Grown x (next g x).state)
     → ((x : There) → MadeBy setting c1 w (world_of x) (value_of x) (word_of x) z (mid_charged (call_cost arguments) y) r (after c number arguments ws y))
-    → Ends setting There ⊥ m1 z (mid_charged (call_cost arguments) y) r (after c number arguments ws y)
+    → Ends setting c1 There ⊥ m1 z (mid_charged (call_cost arguments) y) r (after c number arguments ws y)
     → ((x : There) → WorldKept setting w (world_of x) z r.state y (after c number arguments ws y).state → Around setting (c1 + call_cost arguments) z r.state y (after c number arguments ws y).state
     → SparingCall setting c2 m rs valid (world_of x) around r.state (after c number arguments ws y).state (f (value_of x) r.state)
     (next (slice_set regs t (Some (word_of x))) (after c number arguments ws y).state))
     → SparingCall setting credit m rs valid w around z y (go_on r f) (mid_go_on (exec_step c (call t number arguments) regs y) next)
 made_then setting There world_of value_of word_of c c1 c2 credit m1 m t number arguments ws rs valid w around z y regs r f next there things enough fewer up flat_grown grown made e h =
-    made_after setting There value_of word_of c credit m1 m t number arguments ws rs valid w around z y regs r f next there fewer flat_grown grown (λ x. (made x).outcome) (λ x. (made x).end) e
+    made_after setting There value_of word_of c c1 credit m1 m t number arguments ws rs valid w around z y regs r f next there fewer (omega (arith, enough)) flat_grown grown (λ x. (made x).outcome) (λ x. (made x).end) e
     (λ x.
     let k = made x in
     let world : WorldKept setting w (world_of x) z r.state y (after c number arguments ws y).state =

@@ -30,9 +30,10 @@ use Rattle.back_relation.specs.Around.{CallBegins}
 use Rattle.back_relation.specs.Ends.{Ends, done, left_by, full_there, stopped, few_turns}
 use Rattle.back_relation.specs.Forms.{code_at}
 use Rattle.back_relation.specs.Procedures.{called, ArgumentsGiven}
-use Rattle.back_relation.specs.RoutineClaims.{argument_credit, entry_spare, MethodKept}
+use Rattle.back_relation.specs.RoutineClaims.{argument_credit, entry_spare, MethodKept, no_words_cost}
 use Rattle.back_relation.specs.Starts.{FlatGrown}
 use Rattle.back_relation.proofs.Growth.{same_flat}
+use Rattle.back_relation.proofs.Stops.{stopped_before}
 use Rattle.back_calling.specs.Entering.{Inside}
 use Rattle.back_calling.proofs.Numbers.{numbers_law}
 use Rattle.back_calling.proofs.Storing.{some_words, control_below}
@@ -118,7 +119,7 @@ module _ (setting : Setting) (k turns : ℕ) (placed : IsPlaced setting) (rs val
     outcome = exec (code_at setting k n) (code_of (given setting).body) (first_registers (given setting).registers (chain ∷ count ∷ address ∷ [])) y'
 
     abbrev Comes : FlatEvaluated → MidOutcome → Type 0
-    Comes x q = Ends setting (Makes setting (120 + 62 * count) (λ word w'. CallSays c w z x word w') w z y' x q) ⊥ spare z y' x q
+    Comes x q = Ends setting 0 (Makes setting (120 + 62 * count) (λ word w'. CallSays c w z x word w') w z y' x q) ⊥ spare z y' x q
 
     things : Things setting w z y'
     things = i.call.things
@@ -173,6 +174,7 @@ module _ (setting : Setting) (k turns : ℕ) (placed : IsPlaced setting) (rs val
         (stopped (record {
           because = (room_ended setting setting.limit there.outcome (0 + words_for_handler * length around.handlers) size 0 z y' i.call.room e (omega arith) (omega (arith, wants)), wants);
           printed = subst (λ p. IsPrefix p z.state.printed) (sym things.represents.printed) (same_flat z).printed;
+          paid = λ ended. omega arith;
         }))
 
     body_makes : Comes r outcome
@@ -192,17 +194,17 @@ module _ (setting : Setting) (k turns : ℕ) (placed : IsPlaced setting) (rs val
 
   -- **the call is kept**
   pub call_kept :
-      Ends setting (MethodKept setting k turns rs valid w around z y c (argument_credit count) r (called (code_at setting k turns) (method_routine setting.at) (chain ∷ count ∷ address ∷ []) y)) ⊥ spare z y r
+      Ends setting no_words_cost (MethodKept setting k turns rs valid w around z y c (argument_credit count) r (called (code_at setting k turns) (method_routine setting.at) (chain ∷ count ∷ address ∷ []) y)) ⊥ spare z y r
       (called (code_at setting k turns) (method_routine setting.at) (chain ∷ count ∷ address ∷ []) y)
   call_kept =
       there_kept
-      (makes_with_turn setting routine_words 0 (120 + 62 * count) spare (given setting) (chain ∷ count ∷ address ∷ []) rs valid w around z y r (λ word w'. CallSays c w z r word w') k turns (method_routine setting.at)
-      ((numbers_law setting).routine 17 _ placed refl) refl refl (let small = given_small setting in omega (arith, small)) (let units = r_grows.units in omega (arith, units)) r_grows.printed begins
+      (makes_with_turn setting routine_words 0 0 (120 + 62 * count) spare (given setting) (chain ∷ count ∷ address ∷ []) rs valid w around z y r (λ word w'. CallSays c w z r word w') k turns (method_routine setting.at)
+      ((numbers_law setting).routine 17 _ placed refl) refl refl (let small = given_small setting in omega (arith, small)) (let units = r_grows.units in omega (arith, units)) r_grows.printed r_grows.units begins
       (λ n e y' i. body_makes n e y' i))
     where
       there_kept :
-          {q : MidOutcome} → Ends setting (Makes setting (120 + 62 * count + 38) (λ word w'. CallSays c w z r word w') w z y r q) ⊥ spare z y r q
-          → Ends setting (MethodKept setting k turns rs valid w around z y c (argument_credit count) r q) ⊥ spare z y r q
+          {q : MidOutcome} → Ends setting (0 + 38) (Makes setting (120 + 62 * count + 38) (λ word w'. CallSays c w z r word w') w z y r q) ⊥ spare z y r q
+          → Ends setting no_words_cost (MethodKept setting k turns rs valid w around z y c (argument_credit count) r q) ⊥ spare z y r q
       there_kept (done x) =
           done (record {
             outcome = x.said.outcome;
@@ -219,7 +221,7 @@ module _ (setting : Setting) (k turns : ℕ) (placed : IsPlaced setting) (rs val
           })
       there_kept (left_by x) = absurd x
       there_kept (full_there x) = full_there x
-      there_kept (stopped x) = stopped x
+      there_kept (stopped x) = stopped (stopped_before setting (omega arith) x)
       there_kept (few_turns x) = few_turns x
 
 pub methods_law : LawOfMethods

@@ -32,7 +32,7 @@ use Rattle.back_relation.proofs.Growth.{both_prefix}
 use Rattle.back_relation.proofs.Parts.{go_on_falls, go_on_last}
 use Rattle.back_relation.proofs.Then.{stopped_last}
 use Rattle.back_values.specs.Arguments.{WordsIn}
-use Rattle.back_values.specs.Boxes.{Clean, BoxesMade, BoxesEnd, made, no_words, no_space}
+use Rattle.back_values.specs.Boxes.{Clean, BoxesMade, BoxesEnd, made, no_words, no_space, box_cost}
 use Rattle.back_values.proofs.BoxesMade.{boxes_law, steps_grow}
 
 module _ (c : Context) (r : ℕ) (o : Option (Option ℕ)) where
@@ -100,7 +100,7 @@ pub data BoxesCome (setting : Setting) (hs : List Home) (vs : List Value) (d t :
   were_made : (w' : World) (z' : FlatState) (regs' : Registers) (y' : MidState) → BoxesMade setting hs vs d z.state.variables w w' z z' regs regs' y y'
       → ((i : ℕ) → d + length hs ≤ i → i < t → slice_get regs' i ≡ slice_get regs i) → r ≡ next z' → q ≡ rest regs' y' → BoxesCome setting hs vs d t w z regs y next rest r q
   are_full : FullThere setting r q → BoxesCome setting hs vs d t w z regs y next rest r q
-  are_stopped : Stopped setting r q → BoxesCome setting hs vs d t w z regs y next rest r q
+  are_stopped : Stopped setting box_cost z y r q → BoxesCome setting hs vs d t w z regs y next rest r q
 
 pub boxes_come :
     (setting : Setting) (k n room : ℕ) (hs : List Home) (vs : List Value) (ws : List ℕ) (d t : ℕ) (w : World) (z : FlatState) (regs : Registers) (y : MidState) (rest : Steps)
@@ -146,6 +146,6 @@ boxes_come setting k n room hs vs ws d t w z regs y rest next placed things clea
           printed = both_prefix printed (record { rest = later.printed.0; is = sym later.printed.1 });
         })
     by (no_space x) =
-        let stop : Stopped setting (with_boxes setting.limit hs z next) alone = subst (λ p. Stopped setting (with_boxes setting.limit hs z next) p) alone_is x in
+        let stop : Stopped setting box_cost z y (with_boxes setting.limit hs z next) alone = subst (λ p. Stopped setting box_cost z y (with_boxes setting.limit hs z next) p) alone_is x in
         subst (λ p. BoxesCome setting hs vs d t w z regs y next behind (with_boxes setting.limit hs z next) p)
         (sym (go_on_last alone.end alone behind refl (stopped_last setting (with_boxes setting.limit hs z next) alone.end stop.because))) (are_stopped stop)

@@ -381,7 +381,7 @@ rest_calls_law setting zero a number q wrong vs ws placed found takes_more enoug
     EndsAt setting (rest_credit (length vs)) a (descend (below_at setting zero) (λ entered. enter (context_at setting zero) wrong q [] None vs a.around entered) a.around a.z) p)
     (sym (step_then (code_at setting zero a.turns) (steps.call (a.d + length ws) (level_routine setting.at) []) others a.regs a.y))
     (form_levels_law setting zero (rest_credit (length vs)) a a.d (a.d + length ws) (λ entered. gives nil entered) (λ g x. exec (code_at setting zero a.turns) (code_of others) g x) placed
-    (omega (arith, reserve)) (omega arith) (judged_there setting number (length ws) q a.d (length a.regs) a.s.code.site names) (same_flat a.z)
+    (omega (arith, reserve)) (omega arith) (judged_there setting number (length ws) q a.d (length a.regs) a.s.code.site names) (omega arith) (same_flat a.z)
     (λ g x. steps_grow setting zero a.turns others g x) (λ j same word y' x site. absurd (cc same)))
 rest_calls_law setting (suc j) a number q wrong vs ws placed found takes_more enough fewer bodies of_values inside reserve names =
     let others : Steps = behind_level setting number (length ws) q a.d a.s.code.site in
@@ -393,7 +393,7 @@ rest_calls_law setting (suc j) a number q wrong vs ws placed found takes_more en
     (sym (step_then (code_at setting (suc j) a.turns) (steps.call (a.d + length ws) (level_routine setting.at) []) others a.regs a.y))
     (form_levels_law setting (suc j) (rest_credit (length vs)) a a.d (a.d + length ws) (λ entered. enter (context_at setting (suc j)) wrong q [] None vs a.around entered)
     (λ g x. exec (code_at setting (suc j) a.turns) (code_of others) g x) placed (omega (arith, reserve)) (omega arith)
-    (judged_there setting number (length ws) q a.d (length a.regs) a.s.code.site names)
+    (judged_there setting number (length ws) q a.d (length a.regs) a.s.code.site names) (omega arith)
     (enter_grows setting placed a number q wrong vs ws found takes_more enough of_values inside reserve behind_names j fewer (bodies j refl))
     (λ g x. steps_grow setting (suc j) a.turns others g x)
     (λ i same word y' x site.

@@ -166,7 +166,7 @@ module _ (setting : Setting) (turns number : ℕ) (extra : Extra) (q : FlatProce
     entered_ends room =
         let grown = grown_later (meant_all_later z1) in
         turns_entered setting (suc j) turns number turns (entry_words + body_words q) (body_room q) inside_paid made_entry entry_given rs valid w around (charged 1 z1) y (meant_all z1)
-        (found setting number extra q placed function) refl refl (omega arith) (omega (arith, grown.units)) grown.printed (begins_recounted setting (z1.state.units + 1) (b.begun room))
+        (found setting number extra q placed function) refl refl (omega arith) (omega (arith, grown.units)) grown.printed (λ ended. omega (arith, grown.units)) (begins_recounted setting (z1.state.units + 1) (b.begun room))
         (λ i e y' here.
         let all_made = made i e in
         subst (λ ss. CallEnds setting inside_paid turns rs valid w around (charged 1 z1) y' (meant_all z1) (exec (code_at setting (suc j) i) (code_of ss) regs0 y')) (sym code_is)
@@ -209,13 +209,13 @@ module _ (setting : Setting) (turns number : ℕ) (extra : Extra) (q : FlatProce
       subst (λ p. SparingCall setting credit turns rs valid w around z y p (called (code_at setting zero turns) number entry_given y)) (sym is_none)
       (without_level setting (0 + entry_cost 4) credit refl
       (turns_entered setting zero turns number turns reserve.count 0 0 made_entry entry_given rs valid w around (charged 1 z) y none (found setting number extra q placed function) refl refl
-      (omega (arith, enough_words)) (omega arith) (same_flat z).printed (begins_recounted setting (z.state.units + 1) reserve.call)
+      (omega (arith, enough_words)) (omega arith) (same_flat z).printed (λ ended. absurd (ended refl)) (begins_recounted setting (z.state.units + 1) reserve.call)
       (λ i e y' here.
       let behind : Steps = behind_level in
       subst (λ ss. CallEnds setting 0 turns rs valid w around (charged 1 z) y' none (exec (code_at setting zero i) (code_of ss) regs0 y')) (sym behind_is)
       (subst (λ o. CallEnds setting 0 turns rs valid w around (charged 1 z) y' none o) (sym (step_then (code_at setting zero i) (call 4 (level_routine setting.at) []) behind regs0 y'))
-      (looked setting (λ p. Returned setting 0 w (charged 1 z) y' none p) (λ p. LeftCall setting 0 rs valid w around (charged 1 z) y' none p) ⊥ (λ x. 0) (code_at setting zero i) turns turns 4
-      (level_routine setting.at) [] [] (charged 1 z) y' regs0 none none (λ g x. exec (code_at setting zero i) (code_of behind) g x) tt (omega arith) (same_flat z)
+      (looked setting 0 unit_cost (λ p. Returned setting 0 w (charged 1 z) y' none p) (λ p. LeftCall setting 0 rs valid w around (charged 1 z) y' none p) ⊥ (λ x. 0) (code_at setting zero i) turns turns 4
+      (level_routine setting.at) [] [] (charged 1 z) y' regs0 none none (λ g x. exec (code_at setting zero i) (code_of behind) g x) tt (omega arith) (omega arith) (same_flat z)
       (λ g x. steps_grow setting zero i behind g x) (λ end because. because) (λ asked left_then same. absurd (cc same)) (λ x. absurd x)
       (no_level_at setting i (level_routine setting.at) turns (procedure_with Level 0 (level_code setting.at)) [] w z (mid_charged 40 y') (mid_charged 40 y') (charged 1 z) none
       ((numbers_law setting).routine 15 _ placed refl) refl refl (same_flat z) (things_cost setting 40 (begins_recounted setting z.state.units here.call).things))

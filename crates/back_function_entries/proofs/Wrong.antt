@@ -144,7 +144,7 @@ module _ (setting : Setting) (placed : IsPlaced setting) (k turns name : ℕ) (f
       (subst (λ r. EndsAt setting wrong_credit b r (exec (code_at setting k turns) (code_of judged) regs y)) (sym (next_is around vs z many))
       (subst (λ q. EndsAt setting wrong_credit b (descend (below_at setting k) (signals around) around z) q)
       (sym (step_then (code_at setting k turns) (steps.call d (level_routine setting.at) []) behind_level regs y))
-      (form_levels_law setting k wrong_credit b d d (signals around) (λ g x. exec (code_at setting k turns) (code_of behind_level) g x) placed (omega (arith, room)) (omega arith) begins.first
+      (form_levels_law setting k wrong_credit b d d (signals around) (λ g x. exec (code_at setting k turns) (code_of behind_level) g x) placed (omega (arith, room)) (omega arith) begins.first (omega arith)
       (grown_later (signal_later setting k program_error_class [] around z)) (λ g x. code_grows setting s d n size k turns behind_level g x)
       (λ j same word y' x site.
       let b2 : Start setting = start_after setting b d d n (omega arith) (omega arith) (omega arith) begins.first x in

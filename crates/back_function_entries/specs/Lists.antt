@@ -43,7 +43,7 @@ module _ (setting : Setting) where
     made : (list : Value) (w' : World) (z' : FlatState) (regs' : Registers) (y' : MidState) → ListMade t list w w' z z' regs regs' y y' → r ≡ next list z' → q ≡ rest regs' y'
         → ListEnd t w z regs y next rest r q
     no_words : FullThere setting r q → ListEnd t w z regs y next rest r q
-    no_space : Stopped setting r q → ListEnd t w z regs y next rest r q
+    no_space : Stopped setting list_credit z y r q → ListEnd t w z regs y next rest r q
 
   -- from a point a list was made
   pub record ListThere (a : Start setting) (t : ℕ) (list : Value) (w' : World) (z' : FlatState) (regs' : Registers) (y' : MidState) : Type 0 where

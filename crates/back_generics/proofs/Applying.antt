@@ -7,6 +7,7 @@ use Rattle.lang_meaning.specs.Objects.{program_error_class, function_class, list
 use Rattle.lang_meaning.specs.Primitives.{is_function}
 use Rattle.lang_meaning.specs.State.{DynamicContext}
 use Rattle.lang_meaning.specs.Values.{Value, nil}
+use Rattle.lang_meaning.specs.Counts.{unit_cost}
 use Rattle.flat_language.specs.FlatSignals.{signal, signal_domain_error}
 use Rattle.flat_language.specs.FlatState.{FlatState, FlatEvaluated, gives}
 use Rattle.mid_code.specs.declared.operation.Comparison.TheVariants.{Equal, Different}
@@ -152,11 +153,11 @@ module _ (setting : Setting) (placed : IsPlaced setting) (k t : ℕ) (few : suc 
       let y0 : MidState = mid_charged 46 y in
       let q : MidOutcome = called c number (word ∷ []) y0 in
       subst (λ o. Comes credit y r o) (sym (step_then c (call 2 number (0 ∷ [])) asked_steps begun y))
-      (looked setting (λ o. Returned setting credit w z y r o) (λ o. LeftCall setting credit rs valid w around z y r o)
-      (LookThere setting k t m rs valid w around z z y0 is_function_cost answer q) (λ x. answer) c m m 2 number (0 ∷ []) (word ∷ []) z y begun (gives nil z) r (λ g x. exec c (code_of asked_steps) g x)
-      (refl, tt) (omega arith) grown (λ g x. steps_grown setting k (suc t) asked_steps g x) (nothing_because setting r h.call.things grown) (λ asked left_then e. absurd (cc e)) (λ x. x.end)
-      (looks_called setting k t m rs valid w around z z y0 entry_words is_function_cost number answer (word ∷ []) (given setting) (routine_used setting 19 (given setting) placed refl) refl refl (given_small setting)
-      (omega arith) (here_cost 46 h).call (λ frame some. body_says setting k t frame w z y0 f word (here_cost 46 h).call.things is_f some))
+      (looked setting is_function_cost (credit + unit_cost) (λ o. Returned setting credit w z y r o) (λ o. LeftCall setting credit rs valid w around z y r o)
+      (LookThere setting k t m rs valid w around z y0 is_function_cost answer q) (λ x. answer) c m m 2 number (0 ∷ []) (word ∷ []) z y begun (gives nil z) r (λ g x. exec c (code_of asked_steps) g x)
+      (refl, tt) (omega arith) (omega arith) grown (λ g x. steps_grown setting k (suc t) asked_steps g x) (nothing_because setting r h.call.things grown) (λ asked left_then e. absurd (cc e)) (λ x. x.end)
+      (looks_called setting k t m rs valid w around z y0 entry_words is_function_cost number answer (word ∷ []) (given setting) (routine_used setting 19 (given setting) placed refl) refl refl (given_small setting)
+      (omega arith) (omega arith) (here_cost 46 h).call (λ frame some. body_says setting k t frame w z y0 f word (here_cost 46 h).call.things is_f some))
       (λ x.
       let world = world_then setting (world_cost setting 46 h.call.things) (around_cost setting {credit = 46} z y 46 (omega arith)) x.world in
       let back : Around setting 196 z z y q.state = back_then setting (world_cost setting 46 h.call.things) (around_cost setting {credit = 46} z y 46 (omega arith)) (omega arith) x.back in

@@ -29,6 +29,7 @@ use Rattle.back_relation.specs.Starts.{Start, EndsAt, ReachedFrom}
 use Rattle.back_relation.proofs.Growth.{both_prefix}
 use Rattle.back_relation.proofs.Parts.{IsLast, go_on_falls, go_on_last}
 use Rattle.back_relation.proofs.Reaches.{first_stop_in}
+use Rattle.back_relation.proofs.Stops.{stopped_before}
 use Rattle.back_calling.proofs.Outward.{activation_out}
 use Rattle.back_exits.specs.Going.{world_with}
 use Rattle.back_exits.specs.Touching.{Touched, touched, ExitsMade}
@@ -323,5 +324,5 @@ module _ (setting : Setting) (placed : IsPlaced setting) (a : Start setting) whe
           outcome = f.outcome;
           printed = both_prefix f.printed (record { rest = more.printed.0; is = sym more.printed.1 });
         })
-    laid_ends c word {r} {q} none (stopped f) = subst (λ o. EndsAt setting (cost + credit + 12) a r o) (sym (stopped_closes c word r q q.end refl f.because)) (stopped f)
+    laid_ends c word {r} {q} none (stopped f) = subst (λ o. EndsAt setting (cost + credit + 12) a r o) (sym (stopped_closes c word r q q.end refl f.because)) (stopped (stopped_before setting (omega (arith, h.paid)) f))
     laid_ends c word {r} {q} none (few_turns f) = few_turns (omega (arith, f, size))

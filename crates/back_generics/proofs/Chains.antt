@@ -119,7 +119,8 @@ module _ (setting : Setting) where
         (called (code_at setting (suc j) turns) (chain_routine setting.at) ws y)
     level_runs j does z begins =
         levels_entered setting (suc j) turns (chain_routine setting.at) (turns + spare) (entry_words + 14) entry_words cost_inside routine ws rs valid w around z y
-        (run_chain (context_at setting j) (signal (context_at setting j)) c vs around z) (found placed) refl refl (omega arith) (grown_later (chain_later j c vs around z)).printed begins (λ e. absurd (cc e))
+        (run_chain (context_at setting j) (signal (context_at setting j)) c vs around z) (found placed) refl refl (omega arith) (grown_later (chain_later j c vs around z)).printed
+        (λ ended. let up = (grown_later (chain_later j c vs around z)).units in omega (arith, up)) begins (λ e. absurd (cc e))
         (λ i e.
         let same : j ≡ i = cc e in
         subst

@@ -140,6 +140,7 @@ module _ (setting : Setting) (placed : IsPlaced setting) (k t : ℕ) (rs valid :
               (stopped (record {
                 because = (wanting short, short);
                 printed = subst (λ ps. IsPrefix ps r.state.state.printed) (sym h.call.things.represents.printed) grown.printed;
+                paid = λ ended. omega (arith, grown.units);
               }))
 
           with_room : n + 2 ≤ left y.arena → CallEnds setting credit m rs valid w around z y r (mid_go_on (exec_step c whole regs y) (λ g v. exec c (code_of (return_word 10 ∷ [])) g v))

@@ -7,6 +7,7 @@ use Rattle.lang_meaning.specs.State.{DynamicContext, more}
 use Rattle.flat_language.specs.FlatSignals.{descend}
 use Rattle.flat_language.specs.FlatState.{FlatState, FlatEvaluated, gives}
 use Rattle.lang_meaning.specs.Values.{nil}
+use Rattle.lang_meaning.specs.Counts.{unit_cost}
 use Rattle.mid_code.specs.declared.operation.Counted.TheVariants.{Level}
 use Rattle.mid_code.specs.Law.{Grown}
 use Rattle.mid_code.specs.Meaning.{exec_step}
@@ -24,7 +25,7 @@ use Rattle.back_relation.specs.Worlds.{World, Standing}
 use Rattle.back_relation.specs.Around.{CallBegins, SiteStored}
 use Rattle.back_relation.specs.Ends.{WorldKept, Around, CallEnds, Returned, LeftCall}
 use Rattle.back_relation.specs.Forms.{below_at, code_at}
-use Rattle.back_relation.specs.RoutineClaims.{LevelThere}
+use Rattle.back_relation.specs.RoutineClaims.{LevelThere, level_credit}
 use Rattle.back_relation.specs.Procedures.{called}
 use Rattle.back_relation.specs.Starts.{FlatGrown}
 use Rattle.back_relation.proofs.Growth.{same_flat}
@@ -71,8 +72,8 @@ module _ (setting : Setting) (placed : IsPlaced setting) where
       (mid_go_on (exec_step (code_at setting k n) (call t (level_routine setting.at) []) regs y) next)
   judged_over zero n m t c2 credit rs valid w around z y regs f next b enough flat_grown grown h =
       let none : FlatEvaluated = record { outcome = more; state = z } in
-      looked setting (λ q. Returned setting credit w z y none q) (λ q. LeftCall setting credit rs valid w around z y none q) ⊥ (λ x. 0) (code_at setting zero n) m m t (level_routine setting.at) [] [] z y
-      regs none none next tt (omega arith) (same_flat z) grown (λ end because. because) (λ asked left_then e. absurd (cc e)) (λ x. absurd x)
+      looked setting level_credit (credit + unit_cost) (λ q. Returned setting credit w z y none q) (λ q. LeftCall setting credit rs valid w around z y none q) ⊥ (λ x. 0) (code_at setting zero n) m m t (level_routine setting.at) [] [] z y
+      regs none none next tt (omega arith) (omega arith) (same_flat z) grown (λ end because. because) (λ asked left_then e. absurd (cc e)) (λ x. absurd x)
       (no_level_at setting n (level_routine setting.at) m (procedure_with Level 0 (level_code setting.at)) [] w z (mid_charged 40 y) (mid_charged 40 y) z none ((numbers_law setting).routine 15 _ placed refl)
       refl refl (same_flat z) (world_cost setting 40 b.things).things)
       (λ x. absurd x)
@@ -80,9 +81,9 @@ module _ (setting : Setting) (placed : IsPlaced setting) where
       let b1 : CallBegins setting rs valid level_words w around z (mid_charged 40 y) =
       point_begins setting (world_cost setting 40 b.things) (around_cost setting {credit = 40} z y 40 (omega arith)) b in
       subst (λ r. CallEnds setting credit m rs valid w around z y r (mid_go_on (exec_step (code_at setting (suc j) n) (call t (level_routine setting.at) []) regs y) next)) (sym (level_there setting j f around z))
-      (looked setting (λ q. Returned setting credit w z y (f z) q) (λ q. LeftCall setting credit rs valid w around z y (f z) q)
+      (looked setting level_credit (credit + unit_cost) (λ q. Returned setting credit w z y (f z) q) (λ q. LeftCall setting credit rs valid w around z y (f z) q)
       (LevelThere setting (suc j) n rs valid w around z (mid_charged 40 y) (called (code_at setting (suc j) n) (level_routine setting.at) [] (mid_charged 40 y))) (λ x. x.word) (code_at setting (suc j) n) m m t
-      (level_routine setting.at) [] [] z y regs (gives nil z) (f z) next tt (omega arith) flat_grown grown (nothing_because setting (f z) b.things flat_grown) (λ asked left_then e. absurd (cc e)) (λ x. x.end)
+      (level_routine setting.at) [] [] z y regs (gives nil z) (f z) next tt (omega arith) (omega arith) flat_grown grown (nothing_because setting (f z) b.things flat_grown) (λ asked left_then e. absurd (cc e)) (λ x. x.end)
       (levels_there_at setting j n m rs valid w around z (mid_charged 40 y) placed b1)
       (λ x.
       let world = world_then setting (world_cost setting 40 b.things) (around_cost setting {credit = 40} z y 40 (omega arith)) x.world in

@@ -31,7 +31,7 @@ use Rattle.back_relation.proofs.Growth.{both_prefix}
 use Rattle.back_relation.proofs.Parts.{IsLast, go_on_falls, go_on_last}
 use Rattle.back_relation.proofs.Then.{stopped_last}
 use Rattle.back_relation.proofs.Worlds.{Deeper}
-use Rattle.back_calling.proofs.Formed.{called_state, called_returned, called_cut, called_because}
+use Rattle.back_calling.proofs.Formed.{called_state, called_returned, called_cut, called_because, called_costs}
 use Rattle.back_exits.specs.Going.{world_with}
 use Rattle.back_exits.specs.Touching.{Touched, touched, ExitsMade}
 use Rattle.back_exits.proofs.Inside.{world_both}
@@ -300,5 +300,9 @@ module _ (setting : Setting) where
           by (stopped x) =
               let because : Because setting r (mid_called q t regs).end = called_because setting r q t regs x.because in
               subst (λ o. CallEnds setting credit m rs valid w around z y r o) (sym (passes (stopped_last setting r (mid_called q t regs).end because)))
-              (stopped (record { because = because; printed = subst (λ (s : MidState). IsPrefix s.printed r.state.state.printed) (sym (called_state q t regs)) x.printed }))
+              (stopped (record {
+                because = because;
+                printed = subst (λ (s : MidState). IsPrefix s.printed r.state.state.printed) (sym (called_state q t regs)) x.printed;
+                paid = λ ended. omega (arith, enough, x.paid ended, called_costs q t regs);
+              }))
           by (few_turns x) = few_turns (let size = o.world.same_size in omega (arith, x, size))

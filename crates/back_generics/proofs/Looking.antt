@@ -11,6 +11,7 @@ use Rattle.mid_code.specs.declared.program.MidProcedure.{MidProcedure}
 use Rattle.mid_code.specs.Arena.{left}
 use Rattle.mid_code.specs.Meaning.{Task, enter, turns, levels, count}
 use Rattle.mid_code.specs.State.{MidState, MidOutcome, returns, ends, with_some}
+use Rattle.mid_code.specs.Costs.{entry_cost}
 use Rattle.mid_arena.proofs.Doing.{paid}
 use Rattle.mid_arena.proofs.Leaving.{leaves_returned}
 use Rattle.mid_arena.proofs.Running.{entered, enters, enters_wanting}
@@ -26,7 +27,7 @@ use Rattle.back_relation.proofs.Growth.{same_prefix}
 use Rattle.back_conditions.proofs.Entering.{same_word, looked_world, looked_back, with_frame_of, BodyLooks, frame_left}
 use Rattle.back_conditions.proofs.Finding.{Used}
 
-module _ (setting : Setting) (k t m : ℕ) (rs valid : List Standing) (w : World) (around : DynamicContext) (z counted : FlatState) (y : MidState) where
+module _ (setting : Setting) (k t m : ℕ) (rs valid : List Standing) (w : World) (around : DynamicContext) (z : FlatState) (y : MidState) where
   -- a word is returned, and all but the cost is as it was
   pub record LookThere (most word : ℕ) (q : MidOutcome) : Type 0 where
     pub end : q.end ≡ returns word
@@ -35,17 +36,18 @@ module _ (setting : Setting) (k t m : ℕ) (rs valid : List Standing) (w : World
     pub site : SiteStored setting around y → SiteStored setting around q.state
 
   abbrev pub LookEnds : (most word : ℕ) → MidOutcome → Type 0
-  LookEnds most word q = Ends setting (LookThere most word q) ⊥ m counted y (gives nil z) q
+  LookEnds most word q = Ends setting most (LookThere most word q) ⊥ m z y (gives nil z) q
 
   abbrev below : Task → MidState → MidOutcome
   below = levels setting.procedures setting.turns_each k
 
   pub looks_called :
-      (room most number word : ℕ) (ws : List ℕ) (given : MidProcedure) (u : Used given setting.procedures number) → given.counted ≡ Turn → length ws ≡ given.parameters → given.frame ≤ looking_words → looking_words ≤ room
+      (room most number word : ℕ) (ws : List ℕ) (given : MidProcedure) (u : Used given setting.procedures number) → given.counted ≡ Turn → length ws ≡ given.parameters → given.frame ≤ looking_words → entry_cost given.parameters ≤ most
+      → looking_words ≤ room
       → CallBegins setting rs valid room w around z y → ((frame : ℕ) → frame ≤ left y.arena → BodyLooks setting k t (with_frame_of frame given) ws word most y)
       → LookEnds most word (called (code_at setting k (suc t)) number ws y)
   unfolding turns with_some
-  looks_called room most number word ws given u counts many frame_small enough begins body = subst (λ q. LookEnds most word q) (sym entering) (⊎_elim without with_room (cases_lt (left y.arena) p.frame))
+  looks_called room most number word ws given u counts many frame_small cheap enough begins body = subst (λ q. LookEnds most word q) (sym entering) (⊎_elim without with_room (cases_lt (left y.arena) p.frame))
     where
       p : MidProcedure
       p = with_frame_of u.used.frame given
@@ -70,7 +72,7 @@ module _ (setting : Setting) (k t m : ℕ) (rs valid : List Standing) (w : World
       without : left y.arena < p.frame → LookEnds most word (turns setting.procedures below (suc t) (enter p ws) y)
       without few =
           subst (λ q. LookEnds most word q) (sym (enters_wanting {procedures = setting.procedures} {below = below} {n = t} {p = p} {ws = ws} {z = y} many few).same)
-          (stopped (record { because = (ended few setting.limit refl, few); printed = printed }))
+          (stopped (record { because = (ended few setting.limit refl, few); printed = printed; paid = λ goes. omega (arith, cheap) }))
 
       looks : p.frame ≤ left y.arena → BodyLooks setting k t p ws word most y → LookEnds most word (turns setting.procedures below (suc t) (enter p ws) y)
       looks some b =

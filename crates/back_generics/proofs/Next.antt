@@ -254,7 +254,7 @@ module _ (setting : Setting) (k : ℕ) (around : DynamicContext) (fails : Condit
   entered turns cost chain count address w z y r placed grown begins body =
       let units = grown.units in
       turns_entered setting k turns (next_routine setting.at) turns next_words entry_words cost routine (chain ∷ count ∷ address ∷ []) rs valid w around z y r (found placed) refl refl (omega arith)
-      (omega (arith, units)) grown.printed begins
+      (omega (arith, units)) grown.printed (λ ended. omega (arith, units)) begins
       (λ t e y' here. subst (λ m. CallEnds setting cost m rs valid w around z y' r (exec (code_at setting k t) (code_of (next_code setting.at)) (Some chain ∷ Some count ∷ Some address ∷ None ∷ None ∷ nothing_yet) y')) (sym e) (body t e y' here))
 
   next_does :

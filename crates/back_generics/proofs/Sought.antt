@@ -7,6 +7,7 @@ use Rattle.base.specs.Arithmetic.{difference32}
 use Rattle.lang_meaning.specs.Classes.{class_of}
 use Rattle.lang_meaning.specs.State.{DynamicContext}
 use Rattle.lang_meaning.specs.Values.{Value, nil}
+use Rattle.lang_meaning.specs.Counts.{unit_cost}
 use Rattle.flat_language.specs.FlatState.{FlatState, FlatEvaluated, gives}
 use Rattle.mid_code.specs.declared.operation.Arithmetic.TheVariants as which
 use Rattle.mid_code.specs.declared.operation.Comparison.TheVariants.{Different}
@@ -180,14 +181,14 @@ module _ (setting : Setting) (placed : IsPlaced setting) (k m : ℕ) (rs valid :
         subst (λ q. Comes credit y q) (sym code_comes)
         (going_on_law setting before inner credit m m rs valid w w around z z y y1 r (mid_go_on (exec_step (code_at setting k (suc t)) asks regs1 y1) behind_it)
         (world_cost setting before (it.call y h).things) (around_cost setting {credit = before} z y before (omega arith)) (omega (arith, paid, within, up)) (omega arith) refl
-        (looked setting (λ q. Returned setting inner w z y1 r q) (λ q. LeftCall setting inner rs valid w around z y1 r q)
-        (LookThere setting k t m rs valid w around z z (mid_charged 46 y1) class_cost answer class_end) (λ c. answer) (code_at setting k (suc t)) m m 7 (class_routine setting.at) (7 ∷ []) (found.word ∷ []) z y1 regs1
-        (gives nil z) r behind_it (refl, tt) (omega arith) grows
+        (looked setting class_cost (inner + unit_cost) (λ q. Returned setting inner w z y1 r q) (λ q. LeftCall setting inner rs valid w around z y1 r q)
+        (LookThere setting k t m rs valid w around z (mid_charged 46 y1) class_cost answer class_end) (λ c. answer) (code_at setting k (suc t)) m m 7 (class_routine setting.at) (7 ∷ []) (found.word ∷ []) z y1 regs1
+        (gives nil z) r behind_it (refl, tt) (omega arith) (omega arith) grows
         (λ g c.
         go_on_grown (behind_call (code_at setting k (suc t)) Turn [] pre asks post (test_of Different 3 6) g c) next c (behind_call_grows setting k (suc t) [] pre asks post (test_of Different 3 6) g c) grown)
         (nothing_because setting r (it.call y h).things grows) (λ asked left_then e. absurd (cc e)) (λ c. c.end)
-        (looks_called setting k t m rs valid w around z z (mid_charged 46 y1) entry_words class_cost (class_routine setting.at) answer (found.word ∷ []) (given setting) (routine_used setting 20 (given setting) placed refl) refl refl
-        (given_small setting) (omega arith) (it.call (mid_charged 46 y1) (point_cost 46 h1))
+        (looks_called setting k t m rs valid w around z (mid_charged 46 y1) entry_words class_cost (class_routine setting.at) answer (found.word ∷ []) (given setting) (routine_used setting 20 (given setting) placed refl) refl refl
+        (given_small setting) (omega arith) (omega arith) (it.call (mid_charged 46 y1) (point_cost 46 h1))
         (λ frame some. body_finds setting k t frame w z (mid_charged 46 y1) v found.word (it.call (mid_charged 46 y1) (point_cost 46 h1)).things found.of_value some))
         (behind_class (seeks xs t))))
       where
@@ -266,7 +267,7 @@ module _ (setting : Setting) (placed : IsPlaced setting) (k m : ℕ) (rs valid :
                 (λ n. RunsTo (code_at setting k (suc t)) (code_of argument) (file (suc (length xs)) a total (Some (4 * x.argument)) r8 others) (record y { cost = n })
                 (ends falls regs1 (record y { cost = (mid_charged 20 y).cost + found.cost }))) same run
 
-        behind_class : Seeks xs t → LookThere setting k t m rs valid w around z z (mid_charged 46 y1) class_cost answer class_end
+        behind_class : Seeks xs t → LookThere setting k t m rs valid w around z (mid_charged 46 y1) class_cost answer class_end
             → CallEnds setting inner m rs valid w around z y1 r (behind_it (file (suc (length xs)) a total (Some answer) found.r8_then found.others_then) class_end.state)
         behind_class more c =
             let y2 : MidState = class_end.state in

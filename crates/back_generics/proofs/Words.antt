@@ -373,6 +373,7 @@ module _ (setting : Setting) (placed : IsPlaced setting) (a : Start setting) (k 
           (stopped (record {
             because = (room_ended setting.limit a.n r.outcome refl (omega (arith, enough)) a.begins.call.room a.begins.call.things.within_limit few, few);
             printed = subst (λ ps. IsPrefix ps r.state.state.printed) (sym a.begins.call.things.represents.printed) grown.printed;
+            paid = λ ended. omega (arith, grown.units);
           }))
 
       grows : (g : Registers) (v : MidState) → Grown v (exec c no_step g v).state

@@ -3,6 +3,7 @@ use Rattle.std.proofs.Common.{◌≡◌, ℕ, ◌+◌, ◌^◌, ◌<◌, ◌≤�
 use Rattle.std.specs.Prelude.{◌==◌, slice_set, if◌then◌else◌, ◌||◌}
 use Rattle.std.proofs.lemmas.Bool.{eq-eqb, eqb-true}
 use Rattle.lang_meaning.specs.State.{main_context, exit}
+use Rattle.lang_meaning.specs.Counts.{unit_cost}
 use Rattle.flat_language.specs.FlatMeaning.{mean}
 use Rattle.flat_language.specs.FlatState.{no_environment, FlatState, FlatEvaluated, charged}
 use Rattle.mid_code.specs.declared.operation.Arithmetic.TheVariants as which
@@ -22,7 +23,7 @@ use Rattle.back_lowering.specs.Steps.{Steps}
 use Rattle.back_relation.specs.Setting.{Setting}
 use Rattle.back_relation.specs.Worlds.{World, Later, Standing}
 use Rattle.back_relation.specs.StackWords.{HasWordAt}
-use Rattle.back_relation.specs.Ends.{done, left_by, full_there, stopped, few_turns, Ends}
+use Rattle.back_relation.specs.Ends.{done, left_by, full_there, stopped, few_turns, Ends, form_credit}
 use Rattle.back_relation.specs.Forms.{context_at, code_at, SparingForm}
 use Rattle.back_relation.proofs.Growth.{both_prefix}
 use Rattle.back_relation.proofs.Parts.{go_on_falls, go_on_last}
@@ -125,13 +126,13 @@ module _ (setting : Setting) (k turns current link n : ℕ) (w : World) (z : Fla
   ends_then :
       (r : FlatEvaluated) (q : MidOutcome)
       → SparingForm setting turns (end_record current link y ∷ []) (end_record current link y ∷ []) (main_form_scope setting) 8 wb no_environment main_context z regs2 y2 r q
-      → Ends setting (MainValue setting current link w z y r (whole setting k turns form y q)) (MainLeft setting z y r (whole setting k turns form y q)) turns (charged 1 z) y r (whole setting k turns form y q)
+      → Ends setting (form_credit + 142 + unit_cost) (MainValue setting current link w z y r (whole setting k turns form y q)) (MainLeft setting z y r (whole setting k turns form y q)) turns (charged 1 z) y r (whole setting k turns form y q)
   ends_then r q (done x) =
       let run : RunsTo (c setting k turns form y) (code_of (return_word 8 ∷ [])) q.registers q.state (ends (returns x.word) q.registers (mid_charged 14 q.state)) =
       and_ends tt (return_ends x.in_register) in
       let back = x.reached.back in
       subst
-      (λ p. Ends setting (MainValue setting current link w z y r p) (MainLeft setting z y r p) turns (charged 1 z) y r p)
+      (λ p. Ends setting (form_credit + 142 + unit_cost) (MainValue setting current link w z y r p) (MainLeft setting z y r p) turns (charged 1 z) y r p)
       (sym (whole_returns setting k turns form y q x.word (go_on_falls q (ret setting k turns form y) x.end ∙ run.same)))
       (done (record {
         result = x.result;
@@ -205,11 +206,11 @@ module _ (setting : Setting) (k turns current link n : ℕ) (w : World) (z : Fla
       })
   ends_then r q (stopped x) =
       subst
-      (λ p. Ends setting (MainValue setting current link w z y r p) (MainLeft setting z y r p) turns (charged 1 z) y r p)
+      (λ p. Ends setting (form_credit + 142 + unit_cost) (MainValue setting current link w z y r p) (MainLeft setting z y r p) turns (charged 1 z) y r p)
       (sym (ap (λ p. landed (outside setting k turns form y) (catch setting k turns form y) (mid_go_on p (rest setting k turns form y)))
       (go_on_last q.end q (ret setting k turns form y) refl (stopped_last setting r q.end x.because))
       ∙ stop_passes (outside setting k turns form y) (rest setting k turns form y) (catch setting k turns form y) setting r q q.end refl x.because))
-      (stopped (record { because = x.because; printed = x.printed }))
+      (stopped (record { because = x.because; printed = x.printed; paid = λ ended. omega (arith, x.paid ended) }))
   ends_then r q (few_turns x) = few_turns (omega (arith, x, size))
 
 pub main_ends_law : LawOfMainEnds
@@ -224,7 +225,7 @@ main_ends_law setting k turns current link n first f w z y tail r0 r1 r2 r3 r4 r
     parts_then end_laid (form ++ (return_word 8 ∷ [])) (record { same = begin.runs context }) (record { same = in_two_parts context form (return_word 8 ∷ []) regs2 y2 }) in
     let stands_size = laid_size b.things.represents.arena b.room in
     subst
-    (λ p. Ends setting (MainValue setting current link w z y (mean (context_at setting k) f no_environment main_context z) p) (MainLeft setting z y (mean (context_at setting k) f no_environment main_context z) p) turns (charged 1 z) y
+    (λ p. Ends setting (form_credit + 142 + unit_cost) (MainValue setting current link w z y (mean (context_at setting k) f no_environment main_context z) p) (MainLeft setting z y (mean (context_at setting k) f no_environment main_context z) p) turns (charged 1 z) y
     (mean (context_at setting k) f no_environment main_context z) p)
     (sym (record_runs context 0 record_words 5 (code_of (end_laid ++ (form ++ (return_word 8 ∷ [])))) (code_of end_landed) (r0 ∷ r1 ∷ r2 ∷ r3 ∷ r4 ∷ r5 ∷ r6 ∷ r7 ∷ r8 ∷ tail) y b.room
     ∙ ap (λ p. landed (length y.arena.blocks) (catch setting k turns form y) (mid_go_on p (rest setting k turns form y))) inside.same))

@@ -6,7 +6,7 @@ use Rattle.std.proofs.lemmas.Bool.Decides.{nat_tests}
 use Rattle.base.specs.AllOf.{all_at}
 use Rattle.base.specs.declared.place.Place.{Place}
 use Rattle.lang_meaning.specs.Classes.{fetch}
-use Rattle.lang_meaning.specs.Counts.{application_words}
+use Rattle.lang_meaning.specs.Counts.{application_words, unit_cost}
 use Rattle.lang_meaning.specs.Meaning.{class_in}
 use Rattle.lang_meaning.specs.Objects.{instance, serious_condition_class}
 use Rattle.lang_meaning.specs.Prefixes.{IsPrefix}
@@ -28,7 +28,7 @@ use Rattle.mid_code.specs.Costs.{record_cost}
 use Rattle.mid_code.specs.Law.{Grown}
 use Rattle.mid_code.specs.Meaning.{Context, enter, run_procedure, left_from, leaves, exec, exec_step, turns}
 use Rattle.mid_code.specs.MidCode.{return_word, code_of}
-use Rattle.mid_code.specs.State.{Registers, first_registers, returns, unhandled, no_room, ends, MidState, MidOutcome}
+use Rattle.mid_code.specs.State.{Registers, first_registers, returns, unhandled, no_room, ends, MidState, MidOutcome, no_level}
 use Rattle.mid_code.specs.State.{charged as mid_charged}
 use Rattle.mid_code.specs.Words.{computed}
 use Rattle.mid_code.proofs.Growth.{levels_grow, turns_grow}
@@ -54,7 +54,7 @@ use Rattle.back_relation.specs.Worlds.{World}
 use Rattle.back_relation.specs.StackWords.{HasWordAt}
 use Rattle.back_relation.specs.Things.{Things, WithinLimit}
 use Rattle.back_relation.specs.Around.{RoomFor}
-use Rattle.back_relation.specs.Ends.{LandingIs, RoomEnded, Because, Ends, done, left_by, full_there, stopped, few_turns}
+use Rattle.back_relation.specs.Ends.{LandingIs, RoomEnded, Because, Ends, done, left_by, full_there, stopped, few_turns, form_credit}
 use Rattle.back_relation.specs.Forms.{FormStands, DoesForm, context_at, code_at}
 use Rattle.back_relation.specs.Procedures.{called}
 use Rattle.back_claims.specs.Mains.{MainBegins, MainReturned, Unhandled, main_credit}
@@ -68,7 +68,7 @@ use Rattle.back_exits.proofs.Steps.{record_wanting}
 use Rattle.back_exits.proofs.Whole.{inside_registers}
 use Rattle.back_exits.proofs.Words.{control_of}
 use Rattle.back_exits.specs.Touching.{touched}
-use Rattle.back_calling.proofs.Entered.{framed, UsedAt, used_at, called_by, leaves_printed, leaves_because, things_same_words, words_inside, with_room, without_room}
+use Rattle.back_calling.proofs.Entered.{framed, UsedAt, used_at, called_by, leaves_printed, leaves_because, things_same_words, words_inside, with_room, without_room, leaves_costs}
 use Rattle.back_calling.proofs.Storing.{some_words}
 use Rattle.back_levels.specs.Beginning.{NothingAround, EndBegins}
 use Rattle.back_levels.specs.MainEnds.{end_closed, main_step, MainValue, MainLeft}
@@ -217,7 +217,7 @@ module _ (setting : Setting) (right : ProgramIsRight setting) (k number n : ℕ)
   -- ---- what it comes to
 
   abbrev E : ℕ → MidOutcome → Type 0
-  E m q = Ends setting (MainReturned setting n main_credit (charged 1 z) y r q) (Unhandled setting main_credit (charged 1 z) y r q) m z y r q
+  E m q = Ends setting main_credit (MainReturned setting n main_credit (charged 1 z) y r q) (Unhandled setting main_credit (charged 1 z) y r q) m z y r q
 
   -- there are no words in the meaning
   full_ends : fits ≡ false → (m : ℕ) (q : MidOutcome) → Grown y q.state → E m q
@@ -345,7 +345,7 @@ module _ (setting : Setting) (right : ProgramIsRight setting) (k number n : ℕ)
     }
 
     Inner : MidOutcome → Type 0
-    Inner q = Ends setting (MainValue setting current link w zi yi rf q) (MainLeft setting zi yi rf q) t (charged 1 zi) yi rf q
+    Inner q = Ends setting (form_credit + 142 + unit_cost) (MainValue setting current link w zi yi rf q) (MainLeft setting zi yi rf q) t (charged 1 zi) yi rf q
 
     inner_ends : 8 ≤ left yi.arena → Inner qs
     unfolding Inner
@@ -535,6 +535,12 @@ module _ (setting : Setting) (right : ProgramIsRight setting) (k number n : ℕ)
             printed =
                 subst (λ ps. IsPrefix ps r.state.state.printed) (sym (leaves_printed y.arena.blocks qs))
                 (subst (λ (o : FlatEvaluated). IsPrefix qs.state.printed o.state.state.printed) (sym (meant e)) (both_prefix x.printed behind_grown.printed));
+            paid = λ ended.
+                let here =
+                x.paid (λ none.
+                ended (ap (λ (o : FlatEvaluated). o.outcome) (meant e) ∙ because_then setting r0 restored no_level behind_grown none)) in
+                let up : r0.state.state.units ≤ r.state.state.units = subst (λ (o : FlatEvaluated). r0.state.state.units ≤ o.state.state.units) (sym (meant e)) behind_grown.units in
+                omega (arith, here, up, leaves_costs y.arena.blocks qs);
           })
       leave (few_turns x) =
           let up : r0.state.state.units ≤ r.state.state.units = subst (λ (o : FlatEvaluated). r0.state.state.units ≤ o.state.state.units) (sym (meant e)) behind_grown.units in
@@ -556,6 +562,7 @@ module _ (setting : Setting) (right : ProgramIsRight setting) (k number n : ℕ)
                   leaves_because setting r y.arena.blocks q
                   (no_room_so setting.limit (fr + 8) (omega (arith, within)) b.room e (omega (arith, few, fewer)), few);
               printed = subst (λ ps. IsPrefix ps r.state.state.printed) (sym (leaves_printed y.arena.blocks q)) (printed_before e);
+              paid = λ ended. let up = (grown e).units in omega (arith, up, leaves_costs y.arena.blocks q);
             }))
 
   -- ---- it is entered
@@ -574,6 +581,7 @@ module _ (setting : Setting) (right : ProgramIsRight setting) (k number n : ℕ)
           (stopped (record {
             because = (no_room_so setting.limit number_at.frame (let within = number_at.within in omega (arith, within)) b.room e few, few);
             printed = printed_before e;
+            paid = λ ended. let up = (grown e).units in omega (arith, up);
           }))
       by (inr some) =
           subst (λ o. E (suc t) o) (sym (with_room (code_at setting k t) (framed p number_at.frame) [] y refl some)) (body_ends number_at.frame number_at.within some e t (omega (arith, low)))

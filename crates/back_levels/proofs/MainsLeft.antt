@@ -13,7 +13,7 @@ use Rattle.mid_code.specs.Law.{Grown}
 use Rattle.mid_code.specs.Meaning.{Context, called_from, exec}
 use Rattle.mid_code.specs.Meaning.{called as mid_called}
 use Rattle.mid_code.specs.MidCode.{MidCode}
-use Rattle.mid_code.specs.State.{Registers, falls, MidState, MidOutcome, ends}
+use Rattle.mid_code.specs.State.{Registers, falls, MidState, MidOutcome, ends, no_level}
 use Rattle.mid_code.specs.State.{charged as mid_charged}
 use Rattle.mid_code.specs.State.{go_on as mid_go_on}
 use Rattle.mid_code.proofs.Growth.{go_on_grown, called_grown, same_grown, exec_grown, levels_grow, turns_grow}
@@ -35,7 +35,7 @@ use Rattle.back_relation.proofs.Growth.{grown_later, both_prefix, then_value, th
 use Rattle.back_relation.proofs.Parts.{go_on_falls, go_on_last}
 use Rattle.back_relation.proofs.Then.{because_then, stopped_last}
 use Rattle.back_calling.proofs.Entered.{things_same_words}
-use Rattle.back_calling.proofs.Formed.{called_state, called_returned, called_because}
+use Rattle.back_calling.proofs.Formed.{called_state, called_returned, called_because, called_costs}
 use Rattle.back_levels.specs.MainsLeft.{MainsDo, AreFrom, CameFrom, RunFrom, LawOfMainsLeft}
 use Rattle.back_levels.specs.StartSteps.{mains_code, mains_steps}
 use Rattle.back_levels.proofs.StartSteps.{start_steps_law}
@@ -88,7 +88,7 @@ module _ (setting : Setting) where
 -- a main form by the number of its procedure
 abbrev Called : (setting : Setting) (k turns number : ℕ) → FlatForm → FlatState → MidState → Type 0
 Called setting k turns number f z y =
-    Ends setting
+    Ends setting main_credit
     (MainReturned setting main_reserve main_credit (charged 1 z) y (mean_main setting.names setting.program setting.limit k f z) (called (code_at setting k turns) number [] y))
     (Unhandled setting main_credit (charged 1 z) y (mean_main setting.names setting.program setting.limit k f z) (called (code_at setting k turns) number [] y))
     turns z y (mean_main setting.names setting.program setting.limit k f z) (called (code_at setting k turns) number [] y)
@@ -198,6 +198,11 @@ module _ (setting : Setting) (k turns number : ℕ) (f : FlatForm) (fs : List Fl
       (stopped (record {
         because = because_then setting r1 meant_behind qc.end behind_grown because;
         printed = subst (λ (s : MidState). IsPrefix s.printed r.state.state.printed) (sym (called_state q1 0 regs)) (both_prefix x.printed behind_grown.printed);
+        paid = λ ended.
+            let here = x.paid (λ none. ended (because_then setting r1 meant_behind no_level behind_grown none)) in
+            let before = came.paid in
+            let up = behind_grown.units in
+            omega (arith, here, before, up, called_costs q1 0 regs);
       }))
   main_then (few_turns x) h =
       let before = came.units in

@@ -208,6 +208,7 @@ module _ (setting : Setting) (placed : IsPlaced setting) (input : List ℕ) (k :
           (stopped (record {
             because = (wanting setting.limit b.main.room few, few);
             printed = subst (λ ps. IsPrefix ps r.state.state.printed) (sym b.main.things.represents.printed) grown.printed;
+            paid = λ ended. omega (arith, grown.units);
           }))
       by (inr some) =
           subst (λ o. RunFrom setting setting.turns_each z y r (at_top o)) (sym (with_room c pf [] y refl some))

@@ -69,6 +69,7 @@ module _ (setting : Setting) (input : List ℕ) (k : ℕ) (y : MidState) where
     printed_all = λ here. subst (λ ps. IsPrefix ps q.state.printed) (sym (same_printed t)) (same_prefix q.state.printed);
     room = λ some asked left_then limit e. absurd (subst (λ l. IsReached setting input k y l) e is_reached);
     cost = λ here not_full. cost_within none paid;
+    paid = λ not_more not_full. cost_within none paid;
     serials = λ here not_full. few_serials t;
     never_stuck = λ limit e. subst (λ l. IsReached setting input k y l) e is_reached;
   }
@@ -108,6 +109,7 @@ module _ (setting : Setting) (input : List ℕ) (k : ℕ) (y : MidState) where
         printed_all = λ here. subst (λ ps. IsPrefix ps q.state.printed) (sym printed_is) x.printed;
         room = λ some asked left_then limit e. subst (λ n. IsFullEnd setting input k y n) (sym is) tt;
         cost = λ here not_full. absurd (not_full x.asked x.left_then is);
+        paid = λ not_more not_full. absurd (not_full x.asked x.left_then is);
         serials = λ here not_full. absurd (not_full x.asked x.left_then is);
         never_stuck = λ limit e.
             law_of_unlimited_runs setting.names setting.program input k x.asked x.left_then
@@ -167,13 +169,14 @@ module _ (setting : Setting) (input : List ℕ) (k : ℕ) (y : MidState) where
   not_reached (unhandled class site condition) h here = h
   not_reached e h here = here
 
-  stopped_does : Stopped setting r q → RunDoes setting input k y
-  stopped_does x = record {
+  stopped_does : y.cost ≡ 0 → Stopped setting start_credit z y r q → RunDoes setting input k y
+  stopped_does none x = record {
     ends = stopped_as setting.limit q.end (because_with q.end x.because);
     printed = λ not_full. subst (λ ps. IsPrefix q.state.printed ps) (sym printed_is) x.printed;
     printed_all = λ here. absurd (not_reached q.end x.because here);
     room = λ some asked left_then limit e. room_ended limit (subst (λ l. Because setting r l) e x.because).0;
     cost = λ here not_full. absurd (not_reached q.end x.because here);
+    paid = λ not_more not_full. cost_within none (x.paid (λ more_there. not_more (ended ∙ ap end_of more_there)));
     serials = λ here not_full. absurd (not_reached q.end x.because here);
     never_stuck = λ limit e. subst (λ l. Because setting r l) e x.because;
   }
@@ -187,5 +190,5 @@ pub runs_meant_law : LawOfRunsMeant
 runs_meant_law setting input k w y b enough (done x) = halted_does setting input k y b.no_cost x
 runs_meant_law setting input k w y b enough (left_by x) = unhandled_does setting input k y b.no_cost x
 runs_meant_law setting input k w y b enough (full_there x) = full_does setting input k y x
-runs_meant_law setting input k w y b enough (stopped x) = stopped_does setting input k y x
+runs_meant_law setting input k w y b enough (stopped x) = stopped_does setting input k y b.no_cost x
 runs_meant_law setting input k w y b enough (few_turns x) = let units = units_are setting input k y in absurd (omega (arith, enough, x, units))

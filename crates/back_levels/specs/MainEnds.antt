@@ -3,6 +3,7 @@
 use Rattle.std.specs.Prelude.{◌≡◌, ℕ, ◌+◌, ◌^◌, ◌<◌, ◌≤◌, [], ◌∷◌, ◌++◌, length, Option, Some, List}
 use Rattle.lang_meaning.specs.State.{main_context, Landing, value, exit}
 use Rattle.lang_meaning.specs.Values.{Value}
+use Rattle.lang_meaning.specs.Counts.{unit_cost}
 use Rattle.flat_language.specs.FlatForm.{FlatForm}
 use Rattle.flat_language.specs.FlatMeaning.{mean}
 use Rattle.flat_language.specs.FlatState.{no_environment, FlatState, FlatEvaluated}
@@ -87,7 +88,7 @@ LawOfMainEnds =
     → FormStands setting (main_form_scope setting) first f
     → HasRegisters (value_code setting (main_form_scope setting) 8 f) (r0 ∷ r1 ∷ r2 ∷ r3 ∷ r4 ∷ r5 ∷ r6 ∷ r7 ∷ r8 ∷ tail)
     → words_for setting.names setting.program f ≤ n → DoesForm setting turns (context_at setting k) (code_at setting k turns) f
-    → Ends setting (MainValue setting current link w z y (mean (context_at setting k) f no_environment main_context z)
+    → Ends setting (form_credit + 142 + unit_cost) (MainValue setting current link w z y (mean (context_at setting k) f no_environment main_context z)
     (exec_step (code_at setting k turns) (main_step (lower setting.names setting.at setting.program (main_scope setting.names setting.at setting.program) 8 f).value)
     (r0 ∷ r1 ∷ r2 ∷ r3 ∷ r4 ∷ r5 ∷ r6 ∷ r7 ∷ r8 ∷ tail) y))
     (MainLeft setting z y (mean (context_at setting k) f no_environment main_context z)

@@ -38,7 +38,7 @@ module _ (setting : Setting) where
 
   -- what a run comes to that began there
   abbrev pub RunFrom : (turns : ℕ) → FlatState → MidState → FlatEvaluated → MidOutcome → Type 0
-  RunFrom turns z y r q = Ends setting (Halted setting z y r q) (Unhandled setting start_credit z y r q) turns z y r q
+  RunFrom turns z y r q = Ends setting start_credit (Halted setting z y r q) (Unhandled setting start_credit z y r q) turns z y r q
 
 -- **from any main form on**
 abbrev pub LawOfMainsLeft : Type 0

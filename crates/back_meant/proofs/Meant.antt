@@ -4,7 +4,7 @@ use Rattle.std.specs.Prelude.{Bool, true, slice_get}
 use Rattle.std.proofs.lemmas.Bool.{cases_lt}
 use Rattle.base.specs.declared.place.Place.{Place}
 use Rattle.lang_meaning.specs.Counts.{bound}
-use Rattle.lang_meaning.specs.Meaning.{ended_value, ended_unhandled, ended_full}
+use Rattle.lang_meaning.specs.Meaning.{Meant, End, ended_value, ended_unhandled, ended_full, ended_more}
 use Rattle.lang_meaning.specs.Prefixes.{IsPrefix}
 use Rattle.lang_meaning.specs.State.{Limit, words, unlimited}
 use Rattle.lang_meaning.specs.Values.{Value}
@@ -38,7 +38,7 @@ use Rattle.back_runs.proofs.Programs.{end_is}
 use Rattle.back_runs.specs.Images.{HasStart, IsFirst}
 use Rattle.back_runs.specs.Laws.{loaded, ImageRuns}
 use Rattle.back_runs.proofs.Images.{law_of_image_runs}
-use Rattle.back_meant.specs.Laws.{with_limits, code_of_setting, entry_of, HaltsAs, UnhandledAs, EndsWell, HasTurns, LawOfMeantRuns}
+use Rattle.back_meant.specs.Laws.{with_limits, code_of_setting, entry_of, HaltsAs, UnhandledAs, EndsWell, IsOwnEnd, HasTurns, LawOfMeantRuns}
 use Rattle.back_meant.proofs.Steps.{steps_are_known}
 use Rattle.back_meant.proofs.Verdicts.{halt_as, unhandled_as, verdict}
 
@@ -173,6 +173,123 @@ module _ (lowering : LoweringIsRight) (base : Setting) (laid : List ℕ) (l : Lo
         ]
   ]
 
+  -- instructions that go on, with no limit of words
+  module _ (n : ℕ) (low : n < 2 ^ 32) (goes_on : (run_of image (4 * at) arena input n).ending ≡ Budget) where
+    abbrev m : Meant
+    m = the_meaning (free n) input n y
+
+    few_exits : bound m.units ≤ n → (meant_by (free n) input n).state.state.exits ≤ 2 ^ 32
+    unfolding flat_meaning
+    few_exits paid = let g = law_of_exits_of_runs base.names base.program input n unlimited in omega (arith, g, low, paid)
+
+    -- code whose program has an end of its own, within so many instructions
+    said_value : bound m.units ≤ n → (v : Value) (e : mid.End) → MeansEnd (free n) input n y e (ended_value v) ⊎ RunsOutFor (free n) input n y unlimited e → IsSaid e
+    said_value paid v (mid.halts word) h = tt
+    said_value paid v (mid.no_room asked left_then) h = tt
+    said_value paid v (mid.returns word) h = tt
+    said_value paid v (mid.unhandled class site word) h = tt
+    said_value paid v mid.exhausted (inl h) = absurd h
+    said_value paid v mid.exhausted (inr h) = absurd (omega (arith, few_exits paid, h))
+    said_value paid v mid.falls (inl h) = absurd h
+    said_value paid v mid.falls (inr h) = absurd h
+    said_value paid v (mid.cuts i word) (inl h) = absurd h
+    said_value paid v (mid.cuts i word) (inr h) = absurd h
+    said_value paid v mid.no_level (inl h) = absurd h
+    said_value paid v mid.no_level (inr h) = absurd h
+    said_value paid v mid.no_turn (inl h) = absurd h
+    said_value paid v mid.no_turn (inr h) = absurd h
+    said_value paid v mid.stuck (inl h) = absurd h
+    said_value paid v mid.stuck (inr h) = absurd h
+
+    said_unhandled :
+        bound m.units ≤ n → (c : Value) (place : Place) (e : mid.End)
+        → MeansEnd (free n) input n y e (ended_unhandled c place) ⊎ RunsOutFor (free n) input n y unlimited e → IsSaid e
+    said_unhandled paid c place (mid.halts word) h = tt
+    said_unhandled paid c place (mid.no_room asked left_then) h = tt
+    said_unhandled paid c place (mid.returns word) h = tt
+    said_unhandled paid c place (mid.unhandled class site word) h = tt
+    said_unhandled paid c place mid.exhausted (inl h) = absurd h
+    said_unhandled paid c place mid.exhausted (inr h) = absurd (omega (arith, few_exits paid, h))
+    said_unhandled paid c place mid.falls (inl h) = absurd h
+    said_unhandled paid c place mid.falls (inr h) = absurd h
+    said_unhandled paid c place (mid.cuts i word) (inl h) = absurd h
+    said_unhandled paid c place (mid.cuts i word) (inr h) = absurd h
+    said_unhandled paid c place mid.no_level (inl h) = absurd h
+    said_unhandled paid c place mid.no_level (inr h) = absurd h
+    said_unhandled paid c place mid.no_turn (inl h) = absurd h
+    said_unhandled paid c place mid.no_turn (inr h) = absurd h
+    said_unhandled paid c place mid.stuck (inl h) = absurd h
+    said_unhandled paid c place mid.stuck (inr h) = absurd h
+
+    -- the machine has not ended
+    not_ended : (e : mid.End) (z : MidState) → EndsAs e z (run_of image (4 * at) arena input n) → (e ≡ mid.exhausted → ⊥) → ⊥
+    not_ended (mid.halts word) z h other = cc (goes_on, h.0)
+    not_ended (mid.returns word) z h other = cc (goes_on, h.0)
+    not_ended (mid.unhandled class site word) z h other = cc (goes_on, h.0)
+    not_ended (mid.no_room asked left_then) z h other = cc (goes_on, h.0)
+    not_ended mid.exhausted z h other = other refl
+    not_ended mid.falls z h other = h
+    not_ended (mid.cuts i word) z h other = h
+    not_ended mid.no_level z h other = h
+    not_ended mid.no_turn z h other = h
+    not_ended mid.stuck z h other = h
+
+    -- the code has ended within what its units pay
+    in_cost : bound m.units ≤ n → (m.end ≡ ended_more → ⊥) → IsSaid (code_end (free n) input n y)
+        → EndsAs (code_end (free n) input n y) (run (free n) n y).state (run_of image (4 * at) arena input n)
+    in_cost paid not_more said =
+        let cost = (does_free n).paid not_more (had_room n) in
+        let free_start = (begins (turns_for n)).no_cost in
+        let same = same_run unlimited (turns_for n) n in
+        subst (λ r. EndsAs r.end r.state (run_of image (4 * at) arena input n)) same
+        (image_runs.in_time n n (turns_for n) (subst (λ r. IsSaid r.end) (sym same) said)
+        (subst (λ r. r.state.cost ≤ y.cost + n) (sym same) (omega (arith, cost, paid, free_start))))
+
+    -- where serial numbers are exhausted, there were more exits than units
+    not_exhausted : bound m.units ≤ n → code_end (free n) input n y ≡ mid.exhausted → (g : End) → m.end ≡ g → IsOwnEnd g → ⊥
+    not_exhausted paid e (ended_value v) is own =
+        said_more (does_free n).ends
+      where
+        said_more : MeansEnd (free n) input n y (code_end (free n) input n y) m.end ⊎ RunsOutFor (free n) input n y unlimited (code_end (free n) input n y) → ⊥
+        said_more (inl h) = subst (λ g. MeansEnd (free n) input n y mid.exhausted g) is (subst (λ l. MeansEnd (free n) input n y l m.end) e h)
+        said_more (inr h) = omega (arith, few_exits paid, subst (λ l. RunsOutFor (free n) input n y unlimited l) e h)
+    not_exhausted paid e (ended_unhandled c place) is own =
+        said_more (does_free n).ends
+      where
+        said_more : MeansEnd (free n) input n y (code_end (free n) input n y) m.end ⊎ RunsOutFor (free n) input n y unlimited (code_end (free n) input n y) → ⊥
+        said_more (inl h) = subst (λ g. MeansEnd (free n) input n y mid.exhausted g) is (subst (λ l. MeansEnd (free n) input n y l m.end) e h)
+        said_more (inr h) = omega (arith, few_exits paid, subst (λ l. RunsOutFor (free n) input n y unlimited l) e h)
+    not_exhausted paid e (ended_full asked left_then) is own = own
+    not_exhausted paid e ended_more is own = own
+
+    not_paid : bound m.units ≤ n → (g : End) → m.end ≡ g → IsOwnEnd g → IsSaid (code_end (free n) input n y) → ⊥
+    not_paid paid (ended_value v) is own said =
+        not_ended (code_end (free n) input n y) (run (free n) n y).state (in_cost paid (λ none. cc (is, none)) said)
+        (λ e. not_exhausted paid e (ended_value v) is own)
+    not_paid paid (ended_unhandled c place) is own said =
+        not_ended (code_end (free n) input n y) (run (free n) n y).state (in_cost paid (λ none. cc (is, none)) said)
+        (λ e. not_exhausted paid e (ended_unhandled c place) is own)
+    not_paid paid (ended_full asked left_then) is own said = own
+    not_paid paid ended_more is own said = own
+
+    charged_more : (g : End) → m.end ≡ g → IsOwnEnd g → (bound m.units ≤ n → IsSaid (code_end (free n) input n y)) → n < bound m.units
+    charged_more g is own said = elim (cases_lt n (bound m.units)) [
+      | inl more ↦ more
+      | inr paid ↦ absurd (not_paid paid g is own (said paid))
+    ]
+
+    goes : (g : End) → m.end ≡ g → (g ≡ ended_more) ⊎ (IsOwnEnd g × (n < bound m.units))
+    goes (ended_value v) is =
+        inr (tt, charged_more (ended_value v) is tt (λ paid.
+        said_value paid v (code_end (free n) input n y)
+        (subst (λ g. MeansEnd (free n) input n y (code_end (free n) input n y) g ⊎ RunsOutFor (free n) input n y unlimited (code_end (free n) input n y)) is (does_free n).ends)))
+    goes (ended_unhandled c place) is =
+        inr (tt, charged_more (ended_unhandled c place) is tt (λ paid.
+        said_unhandled paid c place (code_end (free n) input n y)
+        (subst (λ g. MeansEnd (free n) input n y (code_end (free n) input n y) g ⊎ RunsOutFor (free n) input n y unlimited (code_end (free n) input n y)) is (does_free n).ends)))
+    goes (ended_full asked left_then) is = absurd (had_room n asked left_then is)
+    goes ended_more is = inl refl
+
   -- within so many words
   module _ (m k turns n : ℕ) (starts_so : ProgramBegins (with_limits base (words m) turns) input w y) (enough : HasTurns (with_limits base (words m) turns) input k y)
       (low : bound (the_meaning (with_limits base (words m) turns) input k y).units < 2 ^ 32) (paid : bound (the_meaning (with_limits base (words m) turns) input k y).units ≤ n) where
@@ -285,6 +402,7 @@ pub law_of_meant_runs : LawOfMeantRuns
 law_of_meant_runs lowering base laid l known right checked good at image arena input w y p starts first there begins = record {
   prefix = prefix lowering base laid l known right checked good at image arena input w y p starts first there begins;
   ends = ends lowering base laid l known right checked good at image arena input w y p starts first there begins;
+  paid = λ n low goes_on. goes lowering base laid l known right checked good at image arena input w y p starts first there begins n low goes_on _ refl;
   full = full lowering base laid l known right checked good at image arena input w y p starts first there begins;
   in_time = λ m k turns n starts_so enough low paid. (
     of_value lowering base laid l known right checked good at image arena input w y p starts first there begins m k turns n starts_so enough low paid,

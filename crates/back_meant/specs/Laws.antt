@@ -1,8 +1,8 @@
 -- What images of lowered programs do, in words of the meaning of flat programs.
-use Rattle.std.specs.Prelude.{◌≡◌, ◌⊎◌, ◌<◌, ◌≤◌, ℕ, ◌+◌, ◌*◌, ◌^◌, Bool, true, List, length, slice_get, slice_index, Some}
+use Rattle.std.specs.Prelude.{◌≡◌, ◌⊎◌, ⊤, ◌<◌, ◌≤◌, ℕ, ◌+◌, ◌*◌, ◌^◌, Bool, true, List, length, slice_get, slice_index, Some}
 use Rattle.base.specs.declared.place.Place.{Place}
 use Rattle.lang_meaning.specs.Counts.{bound}
-use Rattle.lang_meaning.specs.Meaning.{ended_value, ended_unhandled, class_in}
+use Rattle.lang_meaning.specs.Meaning.{Meant, End, ended_value, ended_unhandled, ended_full, ended_more, class_in}
 use Rattle.lang_meaning.specs.Prefixes.{IsPrefix}
 use Rattle.lang_meaning.specs.State.{Limit, words, unlimited}
 use Rattle.lang_meaning.specs.Values.{Value}
@@ -75,6 +75,16 @@ EndsWell setting input k y x =
 abbrev pub HasTurns : Setting → List ℕ → (k : ℕ) → MidState → Type 0
 HasTurns setting input k y = 16 * (the_meaning setting input k y).units + length y.arena.memory < setting.turns_each
 
+-- the program goes on for so many levels, or it has an end of its own and is charged more than so many instructions
+abbrev pub IsOwnEnd : End → Type 0
+IsOwnEnd (ended_value v) = ⊤
+IsOwnEnd (ended_unhandled c place) = ⊤
+IsOwnEnd (ended_full asked left_then) = ⊥
+IsOwnEnd ended_more = ⊥
+
+abbrev pub GoesOn : Meant → (instructions : ℕ) → Type 0
+GoesOn m n = (m.end ≡ ended_more) ⊎ (IsOwnEnd m.end × (n < bound m.units))
+
 -- what so many instructions of an image have done, in words of the meaning
 pub record MeantRuns (base : Setting) (image : List ℕ) (at arena : ℕ) (input : List ℕ) (w : World) (y : MidState) : Type 0 where
   -- with no limit of words, and as many levels
@@ -84,6 +94,10 @@ pub record MeantRuns (base : Setting) (image : List ℕ) (at arena : ℕ) (input
       (n : ℕ)
       → ((run_of image (4 * at) arena input n).ending ≡ Budget)
       ⊎ ((turns : ℕ) × EndsWell (with_limits base unlimited turns) input n y (run_of image (4 * at) arena input n))
+  -- where they go on, the program does, with no limit of words and as many levels, or it is charged more
+  pub paid :
+      (n : ℕ) → n < 2 ^ 32 → (run_of image (4 * at) arena input n).ending ≡ Budget
+      → GoesOn (flat_meaning base.names base.program input n unlimited) n
   -- Where there was no room, the program has no end of its own within the words with which it begins so, with as many levels or more.
   pub full :
       (n asked left_then : ℕ) → (run_of image (4 * at) arena input n).ending ≡ Full asked left_then

@@ -180,6 +180,7 @@ module _ (setting : Setting) (placed : IsPlaced setting) (k : ℕ) (a : Start se
             wanting_ends setting placed k a two number arguments signalling q is x.asked_for x.left_then (gives v (record a.z { state = z2 })) x.end x.wanting
             (no_room_ended (value v) 0 (within_room setting.limit a.z.state t.within_limit) x.together)
             (subst (λ ps. IsPrefix ps z2.printed) (sym x.represents.printed) keeps.printed)
+            (let paid = paid_value q.state.cost a.y.cost (length ws) (arity which) a.z.state.units z2.units came.cost count keeps.units in omega (arith, paid, enough))
         by (done x) =
             value_ends setting placed k a two number arguments signalling q is {word = x.word} {places = a.w.places} {z2 = z2} {c1 = 190 + 256 * arity which}
             (record {
@@ -219,6 +220,7 @@ module _ (setting : Setting) (placed : IsPlaced setting) (k : ℕ) (a : Start se
             wanting_ends setting placed k a two number arguments signalling q is x.asked_for x.left_then
             (gives (object (length a.z.state.store)) (record a.z { state = z3 })) x.end x.wanting (no_room_ended (value (object (length a.z.state.store))) size fits x.together)
             (subst (λ ps. IsPrefix ps z3.printed) (same ∙ sym x.represents.printed) (itself z3.printed))
+            (let paid = paid_value q.state.cost a.y.cost (length ws) (arity which) a.z.state.units z3.units came.1 count up in omega (arith, paid, enough))
           where
             itself : (ps : List ℕ) → IsPrefix ps ps
             itself ps = record { rest = []; is = nothing_more ps }
@@ -393,6 +395,11 @@ module _ (setting : Setting) (placed : IsPlaced setting) (k : ℕ) (a : Start se
               wanting_ends setting placed k a two number arguments signalling q is x.asked_for x.left_then meant x.end x.wanting
               (no_room_ended meant.outcome size fits x.together)
               (subst (λ ps. IsPrefix ps meant.state.state.printed) (sym x.represents.printed) meant_later.later.printed)
+              (let paid =
+              paid_signal q.state.cost a.y.cost (length ws) (arity which) (cost_of which) (repeated (charged + size) (loop_costs which)) (loop_costs which) charged size
+              a.z.state.units credit came.1 (repeated_paid (charged + size) (loop_costs which) (loops_small which) (omega (arith, some_words))) count enough.0 enough.1 in
+              let units = meant_later.later.units in
+              omega (arith, paid, units))
           by (inl x) =
               let handed : HandedBack setting placed k a two number arguments signalling q is signal_word
               (with_object (record { address = y1.arena.heap_to; words = size; tag = object_tag }) a.w.places) behind (credit - 530) =

@@ -147,8 +147,8 @@ module _ (setting : Setting) (placed : IsPlaced setting) (k : ℕ) (a : Start se
   -- words were not left
   pub wanting_ends :
       {credit : ℕ} (asked left_then : ℕ) (r : FlatEvaluated) → q.end ≡ no_room asked left_then → left_then < asked → RoomEnded setting setting.limit r.outcome
-      → IsPrefix q.state.printed r.state.state.printed → EndsAt setting credit a r (exec c (code_of applied) a.regs a.y)
-  wanting_ends {credit} asked left_then r end less room printed =
+      → IsPrefix q.state.printed r.state.state.printed → PaidFrom credit a.z a.y r.state q.state → EndsAt setting credit a r (exec c (code_of applied) a.regs a.y)
+  wanting_ends {credit} asked left_then r end less room printed paid =
       let run : RunsTo c (code_of applied) a.regs a.y (ends (no_room asked left_then) a.regs q.state) =
       and_ends tt (record { same = is ∙ called_wanting q asked left_then a.d a.regs end }) in
-      subst (λ o. EndsAt setting credit a r o) (sym run.same) (stopped (record { because = (room, less); printed = printed }))
+      subst (λ o. EndsAt setting credit a r o) (sym run.same) (stopped (record { because = (room, less); printed = printed; paid = λ ended. omega (arith, paid) }))

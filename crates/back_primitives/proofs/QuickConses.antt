@@ -101,6 +101,7 @@ module _ (setting : Setting) (k : ℕ) (a : Start setting) (v1 v2 : Value) (w1 w
           lacking,
         );
         printed = subst (λ ps. IsPrefix ps after.printed) (sym represented.printed) (same_prefix after.printed);
+        paid = λ ended. omega arith;
       }))
 
   -- or they are

@@ -2,6 +2,7 @@
 use Rattle.std.proofs.Common.{◌≡◌, ℕ, ◌+◌, ◌≤◌, Bool, ◌++◌, length, Some, refl, sym, ◌∙◌, subst, arith}
 use Rattle.std.specs.Prelude.{◌==◌, not, if◌then◌else◌}
 use Rattle.lang_meaning.specs.Values.{Value, is_true}
+use Rattle.lang_meaning.specs.Counts.{unit_cost}
 use Rattle.flat_language.specs.FlatState.{FlatState, FlatEvaluated, gives}
 use Rattle.mid_code.specs.Costs.{jump_cost}
 use Rattle.mid_code.specs.declared.operation.Test.{Test}
@@ -89,7 +90,7 @@ module _ (setting : Setting) where
   -- what goes on behind a part, of which the meaning knows nothing
   test_after :
       {D : Type 0} {c1 credit : ℕ} (a : Start setting) (test : Test) {r : FlatEvaluated} {q : MidOutcome} (next : Next) → c1 ≤ credit
-      → Ends setting D (Left setting c1 a.rs a.valid a.s a.d a.w a.env a.around a.z a.regs a.y r q) a.turns a.z a.y r q
+      → Ends setting (c1 + unit_cost) D (Left setting c1 a.rs a.valid a.s a.d a.w a.env a.around a.z a.regs a.y r q) a.turns a.z a.y r q
       → ((g : Registers) (y : MidState) → Grown y (next g y).state) → (D → FellAt credit a test r (mid_go_on q next)) → TestAt setting credit a test r (mid_go_on q next)
   test_after {D} {c1} {credit} a test {r} {q} next enough e grown h =
       subst (λ o. TestAt setting credit a test o (mid_go_on q next)) (go_gives r)

@@ -92,6 +92,7 @@ module _ (setting : Setting) (s : FormScope) (d m size : ℕ) where
                 (stopped (record {
                   because = refl;
                   printed = subst (λ ps. IsPrefix ps p.z.state.printed) (sym p.begins.call.things.represents.printed) (same_prefix p.z.state.printed);
+                  paid = λ ended. omega arith;
                 }))
             by (suc j) same =
                 subst (λ r. LoopEnds setting 0 (start_at setting s d m size n p) r (deeper_levels setting (suc j) (again the_loop p.regs) p.y))

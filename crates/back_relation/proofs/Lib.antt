@@ -19,6 +19,7 @@ pub mod Reaches
 pub mod Sequences
 pub mod Standing
 pub mod Starts
+pub mod Stops
 pub mod Straight
 pub mod Then
 pub mod Walks

@@ -24,6 +24,7 @@ use Rattle.back_relation.specs.Forms.{FormEnds, TestEnds, SparingTest, judged_cr
 use Rattle.back_relation.specs.Starts.{FlatGrown, Start, EndsFrom, EndsAt, SparingAt, EndsBy, FellFrom, ReachedFrom}
 use Rattle.back_relation.proofs.Activations.{activation_later}
 use Rattle.back_relation.proofs.Straight.{same_here, set_beside, registers_set, world_units, world_cost, around_units, around_cost}
+use Rattle.back_relation.proofs.Stops.{stopped_before}
 use Rattle.back_relation.proofs.Then.{ends_then, begins_then, ends_two}
 use Rattle.back_relation.proofs.Worlds.{later_same}
 
@@ -189,7 +190,7 @@ module _ (setting : Setting) where
   ends_charged_by a u f h (left_by x) =
       left_by (record { transfer = transfers_repaid u h x.transfer; activation = x.activation; registers = x.registers })
   ends_charged_by a u f h (full_there x) = full_there x
-  ends_charged_by a u f h (stopped x) = stopped x
+  ends_charged_by a u f h (stopped x) = stopped (stopped_before setting (omega (arith, h)) x)
   ends_charged_by a u f h (few_turns x) = few_turns (omega (arith, x))
 
   pub ends_charged :
@@ -269,7 +270,7 @@ module _ (setting : Setting) where
   ends_sparing a u some h (left_by x) =
       left_by (record { transfer = transfers_spare a.z u (omega (arith, h)) x.transfer; activation = x.activation; registers = x.registers })
   ends_sparing a u some h (full_there x) = full_there x
-  ends_sparing a u some h (stopped x) = stopped x
+  ends_sparing a u some h (stopped x) = stopped (stopped_before setting (omega (arith, h)) x)
   ends_sparing a u some h (few_turns x) = few_turns (omega (arith, x, some))
 
   -- and the whole unit pays for it, as a part of other code

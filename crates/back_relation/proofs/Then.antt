@@ -3,6 +3,7 @@ use Rattle.std.proofs.Common.{◌≡◌, inl, inr, ℕ, ◌+◌, ◌*◌, ◌<�
 use Rattle.lang_meaning.specs.Values.{Value}
 use Rattle.lang_meaning.specs.Objects.{Called}
 use Rattle.lang_meaning.specs.State.{DynamicContext, Outcome, value, exit, full, more, Limit, words, unlimited}
+use Rattle.lang_meaning.specs.Counts.{unit_cost}
 use Rattle.flat_language.specs.FlatState.{FlatEnvironment, FlatState, FlatEvaluated, go_on}
 use Rattle.mid_code.specs.declared.operation.Test.{Test}
 use Rattle.mid_code.specs.Arena.{Arena, word_in, stack_from, blocks_from}
@@ -22,6 +23,7 @@ use Rattle.back_relation.specs.Starts.{FlatGrown}
 use Rattle.back_relation.proofs.Activations.{kept_later}
 use Rattle.back_relation.proofs.Growth.{both_prefix, then_value, then_other, then_grown, IsNoValue}
 use Rattle.back_relation.proofs.Parts.{IsLast, go_on_falls, go_on_last}
+use Rattle.back_relation.proofs.Stops.{stopped_before}
 use Rattle.back_relation.proofs.Worlds.{later_then, plain_later, Same, stack_same, around_again}
 
 pub registers_then :
@@ -181,12 +183,12 @@ module _ (setting : Setting) where
     -- what came to an end behind a part that was done; D says what came there, and E what the whole comes to
     pub ends_behind :
         {D E : Type 0} {c2 c turns : ℕ} {r : FlatEvaluated} {q : MidOutcome} → (D → E) → c1 + c2 ≤ c → z.state.units ≤ z1.state.units
-        → Ends setting D (Left setting c2 rs valid s d w1 env around z1 regs1 y1 r q) turns z1 y1 r q
-        → Ends setting E (Left setting c rs valid s d w env around z regs y r q) turns z y r q
+        → Ends setting (c2 + unit_cost) D (Left setting c2 rs valid s d w1 env around z1 regs1 y1 r q) turns z1 y1 r q
+        → Ends setting (c + unit_cost) E (Left setting c rs valid s d w env around z regs y r q) turns z y r q
     ends_behind h enough up (done f) = done (h f)
     ends_behind h enough up (left_by x) = left_by (left_behind enough x)
     ends_behind h enough up (full_there f) = full_there f
-    ends_behind h enough up (stopped f) = stopped f
+    ends_behind h enough up (stopped f) = stopped (stopped_before setting (omega (arith, f1.back.paid, enough)) f)
     ends_behind h enough up (few_turns f) = few_turns (omega (arith, f, up, f1.kept.world.same_size))
 
     pub ends_then :
@@ -260,19 +262,19 @@ module _ (setting : Setting) where
   pub ends_go_on :
       {D E : Type 0} {c1 c turns : ℕ} {rs valid : List Standing} {s : FormScope} {d d1 : ℕ} {w : World} {env : FlatEnvironment} {around : DynamicContext} {z : FlatState} {regs : Registers} {y : MidState}
       {r : FlatEvaluated} {q : MidOutcome} (f : Value → FlatState → FlatEvaluated) (next : Next) → d ≤ d1 → c1 ≤ c
-      → Ends setting D (Left setting c1 rs valid s d1 w env around z regs y r q) turns z y r q
+      → Ends setting (c1 + unit_cost) D (Left setting c1 rs valid s d1 w env around z regs y r q) turns z y r q
       → ((v : Value) (z : FlatState) → FlatGrown z (f v z).state) → ((g : Registers) (y : MidState) → Grown y (next g y).state)
-      → (D → Ends setting E (Left setting c rs valid s d w env around z regs y (go_on r f) (mid_go_on q next)) turns z y (go_on r f) (mid_go_on q next))
-      → Ends setting E (Left setting c rs valid s d w env around z regs y (go_on r f) (mid_go_on q next)) turns z y (go_on r f) (mid_go_on q next)
+      → (D → Ends setting (c + unit_cost) E (Left setting c rs valid s d w env around z regs y (go_on r f) (mid_go_on q next)) turns z y (go_on r f) (mid_go_on q next))
+      → Ends setting (c + unit_cost) E (Left setting c rs valid s d w env around z regs y (go_on r f) (mid_go_on q next)) turns z y (go_on r f) (mid_go_on q next)
   ends_go_on f next l enough (done x) grown mid_grown h = h x
   ends_go_on {D} {E} {c1} {c} {turns} {rs} {valid} {s} {d} {d1} {w} {env} {around} {z} {regs} {y} {r} {q} f next l enough (left_by x) grown mid_grown h =
-      subst (λ p. Ends setting E (Left setting c rs valid s d w env around z regs y p (mid_go_on q next)) turns z y p (mid_go_on q next))
+      subst (λ p. Ends setting (c + unit_cost) E (Left setting c rs valid s d w env around z regs y p (mid_go_on q next)) turns z y p (mid_go_on q next))
       (sym (then_other r f _ x.transfer.outcome tt))
-      (subst (λ p. Ends setting E (Left setting c rs valid s d w env around z regs y r p) turns z y r p) (sym (go_on_last _ q next x.transfer.end tt))
+      (subst (λ p. Ends setting (c + unit_cost) E (Left setting c rs valid s d w env around z regs y r p) turns z y r p) (sym (go_on_last _ q next x.transfer.end tt))
       (left_by (left_less l enough x)))
   ends_go_on {D} {E} {c1} {c} {turns} {rs} {valid} {s} {d} {d1} {w} {env} {around} {z} {regs} {y} {r} {q} f next l enough (full_there x) grown mid_grown h =
       let g : Grown q.state (mid_go_on q next).state = go_on_grown q next q.state (same_grown q.state) mid_grown in
-      subst (λ p. Ends setting E (Left setting c rs valid s d w env around z regs y p (mid_go_on q next)) turns z y p (mid_go_on q next))
+      subst (λ p. Ends setting (c + unit_cost) E (Left setting c rs valid s d w env around z regs y p (mid_go_on q next)) turns z y p (mid_go_on q next))
       (sym (then_other r f _ x.outcome tt))
       (full_there (record {
         asked = x.asked;
@@ -282,9 +284,13 @@ module _ (setting : Setting) where
       }))
   ends_go_on {D} {E} {c1} {c} {turns} {rs} {valid} {s} {d} {d1} {w} {env} {around} {z} {regs} {y} {r} {q} f next l enough (stopped x) grown mid_grown h =
       let g : FlatGrown r.state (go_on r f).state = then_grown r f grown in
-      subst (λ p. Ends setting E (Left setting c rs valid s d w env around z regs y (go_on r f) p) turns z y (go_on r f) p)
+      subst (λ p. Ends setting (c + unit_cost) E (Left setting c rs valid s d w env around z regs y (go_on r f) p) turns z y (go_on r f) p)
       (sym (go_on_last q.end q next refl (stopped_last r q.end x.because)))
-      (stopped (record { because = because_then r f q.end g x.because; printed = both_prefix x.printed g.printed }))
+      (stopped (record {
+        because = because_then r f q.end g x.because;
+        printed = both_prefix x.printed g.printed;
+        paid = λ ended. omega (arith, enough, x.paid (λ none. ended (because_then r f no_level g none)), g.units);
+      }))
   ends_go_on {r} f next l enough (few_turns x) grown mid_grown h =
       let g : FlatGrown r.state (go_on r f).state = then_grown r f grown in few_turns (omega (arith, x, g.units))
 

@@ -156,18 +156,23 @@ module _ (setting : Setting) where
   Because r (unhandled class site condition) = ⊥
   Because r stuck = ⊥
 
-  pub record Stopped (r : FlatEvaluated) (q : MidOutcome) : Type 0 where
+  -- The units of the meaning, which may have gone on, and what was paid before pay for all that was done until code stopped; nothing is said where
+  -- the meaning has no level for what comes.
+  pub record Stopped (credit : ℕ) (z : FlatState) (y : MidState) (r : FlatEvaluated) (q : MidOutcome) : Type 0 where
     pub because : Because r q.end
     pub printed : IsPrefix q.state.printed r.state.state.printed
+    pub paid : (r.outcome ≡ more → ⊥) → PaidFrom credit z y r.state q.state
 
   -- ---- the five cases
 
-  pub data Ends (Done Left : Type 0) (turns : ℕ) (z : FlatState) (y : MidState) (r : FlatEvaluated) (q : MidOutcome) : Type 0 where
-    done : Done → Ends Done Left turns z y r q
-    left_by : Left → Ends Done Left turns z y r q
-    full_there : FullThere r q → Ends Done Left turns z y r q
-    stopped : Stopped r q → Ends Done Left turns z y r q
-    few_turns : AreFew turns z y r.state → Ends Done Left turns z y r q
+  -- So much was paid before for what was done until code stopped. For forms and calls that is a unit more than where they are done: the first unit of
+  -- a body pays for its frame, and the code has no room for the frame before the unit is charged.
+  pub data Ends (credit : ℕ) (Done Left : Type 0) (turns : ℕ) (z : FlatState) (y : MidState) (r : FlatEvaluated) (q : MidOutcome) : Type 0 where
+    done : Done → Ends credit Done Left turns z y r q
+    left_by : Left → Ends credit Done Left turns z y r q
+    full_there : FullThere r q → Ends credit Done Left turns z y r q
+    stopped : Stopped credit z y r q → Ends credit Done Left turns z y r q
+    few_turns : AreFew turns z y r.state → Ends credit Done Left turns z y r q
 
   -- ---- forms
 
@@ -211,7 +216,7 @@ module _ (setting : Setting) where
   -- **what a call comes to**
   abbrev pub CallEnds : (credit turns : ℕ) → (rs valid : List Standing) → World → DynamicContext → FlatState → MidState → FlatEvaluated → MidOutcome → Type 0
   CallEnds credit turns rs valid w around z y r q =
-      Ends (Returned credit w z y r q) (LeftCall credit rs valid w around z y r q) turns z y r q
+      Ends (credit + unit_cost) (Returned credit w z y r q) (LeftCall credit rs valid w around z y r q) turns z y r q
 
   -- and what the call of a function's body comes to, whose form leaves something of its first unit: so much is paid before, and that unit
   abbrev pub SparingCall : (credit turns : ℕ) → (rs valid : List Standing) → World → DynamicContext → FlatState → MidState → FlatEvaluated → MidOutcome → Type 0

@@ -2,6 +2,7 @@
 use Rattle.std.specs.Prelude.{◌≡◌, ℕ, zero, suc, ◌+◌, ◌<◌, ◌≤◌, List, Some, length}
 use Rattle.lang_meaning.specs.State.{DynamicContext, value}
 use Rattle.lang_meaning.specs.Values.{Value, is_true}
+use Rattle.lang_meaning.specs.Counts.{unit_cost}
 use Rattle.flat_language.specs.FlatExits.{Leads}
 use Rattle.flat_language.specs.FlatFits.{Fits}
 use Rattle.flat_language.specs.FlatForm.{FlatForm}
@@ -47,7 +48,7 @@ module _ (setting : Setting) where
   -- what a form comes to, with its value in d
   abbrev pub FormEnds : (credit turns : ℕ) → (rs valid : List Standing) → (s : FormScope) → (d : ℕ) → World → FlatEnvironment → DynamicContext → FlatState → Registers → MidState → FlatEvaluated → MidOutcome → Type 0
   FormEnds credit turns rs valid s d w env around z regs y r q =
-      Ends setting (Fell setting credit rs valid s d w env around z regs y r q) (Left setting credit rs valid s d w env around z regs y r q) turns z y r q
+      Ends setting (credit + unit_cost) (Fell setting credit rs valid s d w env around z regs y r q) (Left setting credit rs valid s d w env around z regs y r q) turns z y r q
 
   -- where a form branches on its value: code fell out, and a test says whether it is true
   pub record FellJudged (credit : ℕ) (rs valid : List Standing) (s : FormScope) (d : ℕ) (w : World) (env : FlatEnvironment) (around : DynamicContext) (z : FlatState) (regs : Registers) (y : MidState)
@@ -65,7 +66,7 @@ module _ (setting : Setting) where
 
   abbrev pub TestEnds : (credit turns : ℕ) → (rs valid : List Standing) → (s : FormScope) → (d : ℕ) → World → FlatEnvironment → DynamicContext → FlatState → Registers → MidState → Test → FlatEvaluated → MidOutcome → Type 0
   TestEnds credit turns rs valid s d w env around z regs y test r q =
-      Ends setting (FellJudged credit rs valid s d w env around z regs y test r q) (Left setting credit rs valid s d w env around z regs y r q) turns z y r q
+      Ends setting (credit + unit_cost) (FellJudged credit rs valid s d w env around z regs y test r q) (Left setting credit rs valid s d w env around z regs y r q) turns z y r q
 
   -- **what a form comes to**, which leaves something of the first unit that it is charged to what is around it
   abbrev pub SparingForm : (turns : ℕ) → (rs valid : List Standing) → (s : FormScope) → (d : ℕ) → World → FlatEnvironment → DynamicContext → FlatState → Registers → MidState → FlatEvaluated → MidOutcome → Type 0

@@ -50,6 +50,10 @@ list_credit n = 100 + 20 * n
 abbrev pub argument_credit : ℕ → ℕ
 argument_credit n = 300 + 20 * n
 
+-- what is done at most, beside what its words pay, where there is no room for the call of a method that is to be kept
+abbrev pub no_words_cost : ℕ
+no_words_cost = 40
+
 abbrev pub chain_credit : ℕ
 chain_credit = 220
 
@@ -211,7 +215,7 @@ module _ (setting : Setting) where
     abbrev pub LevelDoes : Type 0
     LevelDoes =
         CallBegins setting rs valid level_words w around z y
-        → Ends setting (LevelThere (called (code_at setting k turns) (level_routine setting.at) [] y)) ⊥ turns z y
+        → Ends setting level_credit (LevelThere (called (code_at setting k turns) (level_routine setting.at) [] y)) ⊥ turns z y
         (descend (below_at setting k) (λ entered. gives nil entered) around z) (called (code_at setting k turns) (level_routine setting.at) [] y)
 
     -- ---- lists, calls of methods, bindings, kinds
@@ -226,7 +230,7 @@ module _ (setting : Setting) where
     ListDoes =
         (vs : List Value) (address : ℕ) → ((v : Value) (others : List Value) → vs ≡ v ∷ others → ArgumentsGiven setting w y.arena address vs)
         → CallBegins setting rs valid routine_words w around z y
-        → Ends setting
+        → Ends setting (list_credit (length vs))
         (ListThere (list_credit (length vs)) (make_list setting.limit vs z (λ v after. gives v after))
         (called (code_at setting k turns) (list_routine setting.at) (address ∷ length vs ∷ []) y))
         ⊥ (turns + entry_spare) z y (make_list setting.limit vs z (λ v after. gives v after))
@@ -251,7 +255,7 @@ module _ (setting : Setting) where
     MethodDoes =
         (c : Called) (chain address : ℕ) → ChainAt setting chain c.rest → ChainTakes setting (length c.arguments) c.rest
         → ArgumentsGiven setting w y.arena address c.arguments → CallBegins setting rs valid routine_words w around z y
-        → Ends setting
+        → Ends setting no_words_cost
         (MethodKept c (argument_credit (length c.arguments)) (with_record setting.limit (Some c) true z (λ after. gives nil after))
         (called (code_at setting k turns) (method_routine setting.at) (chain ∷ length c.arguments ∷ address ∷ []) y))
         ⊥ (turns + entry_spare) z y (with_record setting.limit (Some c) true z (λ after. gives nil after))
@@ -266,7 +270,7 @@ module _ (setting : Setting) where
     abbrev pub LooksUp : (most routine : ℕ) → List ℕ → (word : ℕ) → Type 0
     LooksUp most routine ws word =
         CallBegins setting rs valid looking_words w around z y
-        → Ends setting (Looks most word (called (code_at setting k turns) routine ws y)) ⊥ turns z y (gives nil z)
+        → Ends setting most (Looks most word (called (code_at setting k turns) routine ws y)) ⊥ turns z y (gives nil z)
         (called (code_at setting k turns) routine ws y)
 
     abbrev pub IsFunctionDoes : Type 0

@@ -58,7 +58,7 @@ module _ (setting : Setting) where
   -- what ends so that something is done, or a transfer leaves it
   abbrev pub EndsBy : (Done : Type 0) → ℕ → Start → FlatEvaluated → MidOutcome → Type 0
   EndsBy Done credit a r q =
-      Ends setting Done (Left setting credit a.rs a.valid a.s a.d a.w a.env a.around a.z a.regs a.y r q) a.turns a.z a.y r q
+      Ends setting (credit + unit_cost) Done (Left setting credit a.rs a.valid a.s a.d a.w a.env a.around a.z a.regs a.y r q) a.turns a.z a.y r q
 
   -- a loop of the program fell out: its value is nil, whatever the registers hold, and it is paid that nil's word comes behind it
   pub record FellNil (credit : ℕ) (a : Start) (r : FlatEvaluated) (q : MidOutcome) : Type 0 where

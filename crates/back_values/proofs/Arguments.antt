@@ -3,6 +3,7 @@ use Rattle.std.proofs.Common.{◌≡◌, ℕ, ◌+◌, ◌<◌, ◌≤◌, List,
 use Rattle.std.specs.Prelude.{slice_get}
 use Rattle.lang_meaning.specs.Values.{Value}
 use Rattle.lang_meaning.specs.State.{DynamicContext}
+use Rattle.lang_meaning.specs.Counts.{unit_cost}
 use Rattle.flat_language.specs.FlatForm.{FlatForms, no_form, form_and}
 use Rattle.flat_language.specs.FlatMeaning.{mean, mean_arguments}
 use Rattle.flat_language.specs.FlatNodes.{count_forms}
@@ -47,7 +48,7 @@ abbrev pub EndsSo :
     (setting : Setting) (s : FormScope) (d m size : ℕ) → (Done : FlatEvaluated → MidOutcome → Type 0) → (credit turns : ℕ) → Point setting s d m size → FlatEvaluated → MidOutcome
     → Type 0
 EndsSo setting s d m size Done credit turns p r q =
-    Ends setting (Done r q) (Left setting credit p.rs p.valid s d p.w p.env p.around p.z p.regs p.y r q) turns p.z p.y r q
+    Ends setting (credit + unit_cost) (Done r q) (Left setting credit p.rs p.valid s d p.w p.env p.around p.z p.regs p.y r q) turns p.z p.y r q
 
 module _ (setting : Setting) (s : FormScope) (d m size k n credit : ℕ) (p : Point setting s d m size) (Done : FlatEvaluated → MidOutcome → Type 0)
     (next : List Value → FlatState → FlatEvaluated) (rest : Steps) (grown : (vs : List Value) (z : FlatState) → FlatGrown z (next vs z).state) (count : ℕ)

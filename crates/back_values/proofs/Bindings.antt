@@ -2,6 +2,7 @@
 use Rattle.std.proofs.Common.{◌≡◌, ℕ, ◌+◌, ◌*◌, ◌<◌, ◌≤◌, List, [], ◌∷◌, ◌++◌, length, take, refl, sym, ap, ◌∙◌, subst, arith}
 use Rattle.lang_meaning.specs.State.{DynamicContext, Outcome, value, exit, full, more}
 use Rattle.lang_meaning.specs.Values.{Value}
+use Rattle.lang_meaning.specs.Counts.{unit_cost}
 use Rattle.flat_language.specs.declared.place.Home.{Home}
 use Rattle.flat_language.specs.FlatForm.{FlatForm, let_form, FlatBindings, no_binding, binding_and}
 use Rattle.flat_language.specs.FlatMeaning.{mean, mean_arguments, mean_bindings, binding_homes}
@@ -37,6 +38,7 @@ use Rattle.back_relation.proofs.Growth.{same_flat, then_value}
 use Rattle.back_relation.proofs.Parts.{go_on_falls}
 use Rattle.back_relation.proofs.Points.{point_after, code_grows}
 use Rattle.back_relation.proofs.Starts.{start_charged, ends_sparing, ends_spared, gives_run, behind}
+use Rattle.back_relation.proofs.Stops.{stopped_less}
 use Rattle.back_relation.proofs.Then.{ends_go_on, same_world}
 use Rattle.mid_arena.specs.Places.{WordsOf}
 use Rattle.back_values.proofs.WordLists.{of_values_later}
@@ -130,14 +132,14 @@ module _ (setting : Setting) where
 
     ends_dropped :
         {D : Type 0} {credit turns : ℕ} {r : FlatEvaluated} {q : MidOutcome}
-        → Ends setting D (Left setting credit rs valid inner (d + n) w env around (framed fs z) regs y r q) turns (framed fs z) y r q
-        → Ends setting D (Left setting credit rs valid s d w env around z regs y (without_slots_from k r) q) turns z y (without_slots_from k r) q
+        → Ends setting (credit + unit_cost) D (Left setting credit rs valid inner (d + n) w env around (framed fs z) regs y r q) turns (framed fs z) y r q
+        → Ends setting (credit + unit_cost) D (Left setting credit rs valid s d w env around z regs y (without_slots_from k r) q) turns z y (without_slots_from k r) q
     ends_dropped (done x) = done x
     ends_dropped (left_by x) = left_by (left_dropped x)
     ends_dropped (full_there x) =
         full_there (record { asked = x.asked; left_then = x.left_then; outcome = x.outcome; printed = x.printed })
     ends_dropped {r = r} {q = q} (stopped x) =
-        stopped (record { because = because_framed (take k r.state.frame) r q.end x.because; printed = x.printed })
+        stopped (record { because = because_framed (take k r.state.frame) r q.end x.because; printed = x.printed; paid = x.paid })
     ends_dropped (few_turns x) = few_turns x
 
 module _ (setting : Setting) (placed : IsPlaced setting) (s : FormScope) (d m size k turns : ℕ) (bs : FlatBindings) (body : FlatForm) (homes : HomesAsSlots s) where
@@ -293,7 +295,7 @@ module _ (setting : Setting) (placed : IsPlaced setting) (s : FormScope) (d m si
             (subst (λ x. EndsAt setting form_credit (start q) (in_new_slots hs vs (λ inner. mean (context_at setting k) body q.env q.around inner) z') x) (sym run)
             (behind_boxes q vs w' z' regs' y' count b))
         by q (no_words f) = full_there f
-        by q (no_space f) = stopped f
+        by q (no_space f) = stopped (stopped_less setting (omega arith) f)
 
     -- **bindings of `let`**
     pub bindings_here : ArgumentsHere setting s d m size k turns (forms_of bs) → Here setting s d m size k turns (let_form bs body)

@@ -33,7 +33,7 @@ use Rattle.back_relation.specs.Placed.{IsPlaced}
 use Rattle.back_relation.specs.Worlds.{World}
 use Rattle.back_relation.specs.Things.{Things, WithinLimit}
 use Rattle.back_relation.specs.Around.{RoomFor}
-use Rattle.back_relation.specs.Ends.{FullThere, Stopped, RoomEnded}
+use Rattle.back_relation.specs.Ends.{PaidFrom, FullThere, Stopped, RoomEnded}
 use Rattle.back_relation.specs.Forms.{code_at}
 use Rattle.back_relation.specs.Starts.{FlatGrown}
 use Rattle.back_relation.proofs.Growth.{same_prefix, same_flat, both_flat}
@@ -42,7 +42,7 @@ use Rattle.back_relation.proofs.Then.{world_then, back_then}
 use Rattle.back_relation.proofs.Worlds.{later_same, word_later}
 use Rattle.back_values.specs.Arguments.{WordsIn}
 use Rattle.back_values.proofs.WordLists.{words_kept, of_values_later}
-use Rattle.back_values.specs.Boxes.{Clean, extended, SlotsIn, BoxesMade, BoxesEnd, made, no_words, no_space, LawOfBoxes}
+use Rattle.back_values.specs.Boxes.{box_cost, Clean, extended, SlotsIn, BoxesMade, BoxesEnd, made, no_words, no_space, LawOfBoxes}
 use Rattle.back_values.proofs.NewBoxes.{box_asked, box_world, things_boxed, world_boxed, around_boxed, clean_boxed, box_is}
 
 -- code only grows
@@ -89,7 +89,7 @@ wanting setting (words m) room z y r e few h =
 
 module _ (setting : Setting) (placed : IsPlaced setting) (k n room t : ℕ) (rest : Steps) (next : FlatState → FlatEvaluated) (grown : (z : FlatState) → FlatGrown z (next z).state)
     (Whole : FlatEvaluated → MidOutcome → Type 0) (whole_full : (r : FlatEvaluated) (q : MidOutcome) → FullThere setting r q → Whole r q)
-    (whole_stopped : (r : FlatEvaluated) (q : MidOutcome) → Stopped setting r q → Whole r q) where
+    (z0 : FlatState) (y0 : MidState) (whole_stopped : (r : FlatEvaluated) (q : MidOutcome) → Stopped setting box_cost z0 y0 r q → Whole r q) where
   abbrev c : Context
   c = code_at setting k n
 
@@ -105,7 +105,8 @@ module _ (setting : Setting) (placed : IsPlaced setting) (k n room t : ℕ) (res
   Goes hs =
       (vs : List Value) (ws : List ℕ) (d : ℕ) (before : List Value) (w : World) (z : FlatState) (regs : Registers) (y : MidState) → Things setting w (extended before z) y
       → Clean w y → RoomFor setting.limit room (extended before z).state y → length vs ≡ length hs → WordsOf w.places vs ws → WordsIn d ws regs → d + length hs ≤ t
-      → enough_for (of_code (code_of (boxes_made hs d t))) ≤ length regs → GoesOn hs vs d before w z regs y → Whole (with_boxes setting.limit hs z next) (exec c (code_of (code hs d)) regs y)
+      → enough_for (of_code (code_of (boxes_made hs d t))) ≤ length regs → PaidFrom 0 z0 y0 z y → GoesOn hs vs d before w z regs y
+      → Whole (with_boxes setting.limit hs z next) (exec c (code_of (code hs d)) regs y)
 
   nothing_made : (d : ℕ) (before : List Value) (w : World) (z : FlatState) (regs : Registers) (y : MidState) → Things setting w (extended before z) y → Clean w y
       → BoxesMade setting [] [] d before w w z z regs regs y y
@@ -254,9 +255,9 @@ module _ (setting : Setting) (placed : IsPlaced setting) (k n room t : ℕ) (res
   box_fits hs d size h = (omega (arith, h), omega (arith, h))
 
   boxed : (hs : List Home) → Goes hs → Goes (home.Boxed ∷ hs)
-  boxed hs goes [] ws d before w z regs y things clean h same is inside fits there goes_on = absurd (omega (arith, same))
-  boxed hs goes (v ∷ vs) [] d before w z regs y things clean h same is inside fits there goes_on = absurd is
-  boxed hs goes (v ∷ vs) (word ∷ ws) d before w z regs y things clean h same is inside fits there goes_on =
+  boxed hs goes [] ws d before w z regs y things clean h same is inside fits there paid goes_on = absurd (omega (arith, same))
+  boxed hs goes (v ∷ vs) [] d before w z regs y things clean h same is inside fits there paid goes_on = absurd is
+  boxed hs goes (v ∷ vs) (word ∷ ws) d before w z regs y things clean h same is inside fits there paid goes_on =
       by (has_room setting.limit (z.state.heap + z.state.stack + 1 + 0)) refl
     where
       boxed_code : Steps
@@ -281,7 +282,7 @@ module _ (setting : Setting) (placed : IsPlaced setting) (k n room t : ℕ) (res
           (room_after setting.limit room room (extended before z) (extended (before ++ v ∷ []) (box_asked z)) y (with_box word y) (omega arith) back1.charged h) (omega (arith, same))
           (of_values_later world1.later vs ws is.1) (others_stay ws d y.arena.heap_to regs (omega (arith, fits, same, wc)) inside.1) (omega (arith, fits))
           (subst (λ i. enough_for (of_code (code_of (boxes_made hs (d + 1) t))) ≤ i) (sym (set_count d y.arena.heap_to regs)) (box_fits hs d (length regs) there).1)
-          (λ w' z' regs' y' m. goes_on w' z' regs' y' (box_too before z things clean v word is.0 some within low top m)))
+          (omega (arith, paid, back1.paid)) (λ w' z' regs' y' m. goes_on w' z' regs' y' (box_too before z things clean v word is.0 some within low top m)))
       with_room e (is_wanting few) =
           let run = and_then {c = c} {code = code_of (request (t + 1) t ∷ store d (t + 1) 0 ∷ move d (t + 1) ∷ code hs (d + 1))} {rs = regs} {z = y} constant_falls
           (and_ends tt (request_wanting (register_here regs t 1 (omega (arith, top))) few)) in
@@ -292,6 +293,7 @@ module _ (setting : Setting) (placed : IsPlaced setting) (k n room t : ℕ) (res
             printed =
                 subst (λ p. IsPrefix p (with_boxes setting.limit hs (box_asked z) next).state.state.printed) (sym things.represents.printed)
                 (boxes_grow setting.limit hs (box_asked z) next grown).printed;
+            paid = λ ended. omega (arith, paid, (boxes_grow setting.limit hs (box_asked z) next grown).units);
           }))
 
       by :
@@ -309,23 +311,23 @@ module _ (setting : Setting) (placed : IsPlaced setting) (k n room t : ℕ) (res
           })
 
   slotted : (hs : List Home) → Goes hs → Goes (home.Slot ∷ hs)
-  slotted hs goes [] ws d before w z regs y things clean h same is inside fits there goes_on = absurd (omega (arith, same))
-  slotted hs goes (v ∷ vs) [] d before w z regs y things clean h same is inside fits there goes_on = absurd is
-  slotted hs goes (v ∷ vs) (word ∷ ws) d before w z regs y things clean h same is inside fits there goes_on =
-      goes vs ws (d + 1) before w z regs y things clean h (omega (arith, same)) is.1 inside.1 (omega (arith, fits)) there
+  slotted hs goes [] ws d before w z regs y things clean h same is inside fits there paid goes_on = absurd (omega (arith, same))
+  slotted hs goes (v ∷ vs) [] d before w z regs y things clean h same is inside fits there paid goes_on = absurd is
+  slotted hs goes (v ∷ vs) (word ∷ ws) d before w z regs y things clean h same is inside fits there paid goes_on =
+      goes vs ws (d + 1) before w z regs y things clean h (omega (arith, same)) is.1 inside.1 (omega (arith, fits)) there paid
       (λ w' z' regs' y' m. goes_on w' z' regs' y' (slot_too v word is.0 inside.0 m))
 
   pub boxes_go_on : (hs : List Home) → Goes hs
-  boxes_go_on [] [] ws d before w z regs y things clean h same is inside fits there goes_on = goes_on w z regs y (nothing_made d before w z regs y things clean)
-  boxes_go_on [] (v ∷ vs) ws d before w z regs y things clean h same is inside fits there goes_on = absurd (omega (arith, same))
-  boxes_go_on (home.Slot ∷ hs) vs ws d before w z regs y things clean h same is inside fits there goes_on =
-      slotted hs (boxes_go_on hs) vs ws d before w z regs y things clean h same is inside fits there goes_on
-  boxes_go_on (home.Boxed ∷ hs) vs ws d before w z regs y things clean h same is inside fits there goes_on =
-      boxed hs (boxes_go_on hs) vs ws d before w z regs y things clean h same is inside fits there goes_on
+  boxes_go_on [] [] ws d before w z regs y things clean h same is inside fits there paid goes_on = goes_on w z regs y (nothing_made d before w z regs y things clean)
+  boxes_go_on [] (v ∷ vs) ws d before w z regs y things clean h same is inside fits there paid goes_on = absurd (omega (arith, same))
+  boxes_go_on (home.Slot ∷ hs) vs ws d before w z regs y things clean h same is inside fits there paid goes_on =
+      slotted hs (boxes_go_on hs) vs ws d before w z regs y things clean h same is inside fits there paid goes_on
+  boxes_go_on (home.Boxed ∷ hs) vs ws d before w z regs y things clean h same is inside fits there paid goes_on =
+      boxed hs (boxes_go_on hs) vs ws d before w z regs y things clean h same is inside fits there paid goes_on
 
 pub boxes_law : (setting : Setting) → LawOfBoxes setting
 boxes_law setting k n room hs vs ws d t w z regs y rest next placed things clean h same is inside fits there grown =
     boxes_go_on setting placed k n room t rest next grown
     (λ r q. BoxesEnd setting hs vs d w z regs y next (λ g x. exec (code_at setting k n) (code_of rest) g x) r q)
-    (λ r q f. no_words f) (λ r q f. no_space f) hs vs ws d z.state.variables w z regs y things clean h same is inside fits there
+    (λ r q f. no_words f) z y (λ r q f. no_space f) hs vs ws d z.state.variables w z regs y things clean h same is inside fits there (omega arith)
     (λ w' z' regs' y' m. made w' z' regs' y' m refl refl)

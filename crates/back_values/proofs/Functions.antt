@@ -411,6 +411,7 @@ module _ (setting : Setting) (placed : IsPlaced setting) (s : FormScope) (d m si
             few,
           );
           printed = subst (λ x. IsPrefix x q.z.state.printed) (sym q.begins.call.things.represents.printed) (same_prefix q.z.state.printed);
+          paid = λ ended. omega arith;
         }))
 
     made_or_not :

@@ -1,6 +1,7 @@
 -- What is said from a later first register is said from an earlier one.
-use Rattle.std.proofs.Common.{ℕ, ◌≤◌, List}
+use Rattle.std.proofs.Common.{ℕ, ◌≤◌, List, ◌+◌}
 use Rattle.lang_meaning.specs.State.{DynamicContext}
+use Rattle.lang_meaning.specs.Counts.{unit_cost}
 use Rattle.flat_language.specs.FlatState.{FlatEnvironment, FlatState, FlatEvaluated}
 use Rattle.mid_code.specs.State.{Registers, MidState, MidOutcome}
 use Rattle.back_relation.specs.Setting.{Setting}
@@ -25,8 +26,8 @@ module _ (setting : Setting) {rs valid : List Standing} {s : FormScope} {w : Wor
 
   pub ends_earlier :
       {D : Type 0} {credit d e turns : ℕ} {r : FlatEvaluated} {q : MidOutcome} → d ≤ e
-      → Ends setting D (Left setting credit rs valid s e w env around z regs y r q) turns z y r q
-      → Ends setting D (Left setting credit rs valid s d w env around z regs y r q) turns z y r q
+      → Ends setting (credit + unit_cost) D (Left setting credit rs valid s e w env around z regs y r q) turns z y r q
+      → Ends setting (credit + unit_cost) D (Left setting credit rs valid s d w env around z regs y r q) turns z y r q
   ends_earlier l (done x) = done x
   ends_earlier l (left_by x) = left_by (left_earlier l x)
   ends_earlier l (full_there x) = full_there x

@@ -1,8 +1,9 @@
 -- A form with a site: its activation has a site that is known, and goes on with the one of before.
-use Rattle.std.proofs.Common.{◌≡◌, inr, ℕ, ◌≤◌, List, refl, ap, ◌∙◌}
+use Rattle.std.proofs.Common.{◌≡◌, inr, ℕ, ◌≤◌, List, refl, ap, ◌∙◌, ◌+◌}
 use Rattle.base.specs.declared.place.Place.{Place}
 use Rattle.lang_meaning.specs.Meaning.{place_of_site}
 use Rattle.lang_meaning.specs.State.{DynamicContext}
+use Rattle.lang_meaning.specs.Counts.{unit_cost}
 use Rattle.flat_language.specs.FlatForm.{FlatForm, sited}
 use Rattle.flat_language.specs.FlatMeaning.{mean}
 use Rattle.flat_language.specs.FlatState.{FlatEnvironment, FlatState, FlatEvaluated, charged}
@@ -151,8 +152,8 @@ module _ (setting : Setting) (n : ℕ) (some : 1 ≤ n) {rs valid : List Standin
   }
 
   ends_back :
-      {D E : Type 0} {credit turns : ℕ} {r : FlatEvaluated} {q : MidOutcome} → (D → E) → Ends setting D (Left setting credit rs valid known d w env there z regs y r q) turns z y r q
-      → Ends setting E (Left setting credit rs valid s d w env around z regs y r q) turns z y r q
+      {D E : Type 0} {credit turns : ℕ} {r : FlatEvaluated} {q : MidOutcome} → (D → E) → Ends setting (credit + unit_cost) D (Left setting credit rs valid known d w env there z regs y r q) turns z y r q
+      → Ends setting (credit + unit_cost) E (Left setting credit rs valid s d w env around z regs y r q) turns z y r q
   unfolding transfers_back
   ends_back f (done x) = done (f x)
   ends_back f (left_by x) =

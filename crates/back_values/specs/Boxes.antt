@@ -27,6 +27,10 @@ use Rattle.back_values.specs.Arguments.{WordsIn}
 abbrev pub Clean : World → MidState → Type 0
 Clean w y = (i a : ℕ) → slice_get w.boxes i ≡ Some (on_stack a) → stack_from y.arena ≤ a
 
+-- what the code of a box costs at most, for which its unit pays
+abbrev pub box_cost : ℕ
+box_cost = 40
+
 -- a state with other variables
 abbrev pub extended : List Value → FlatState → FlatState
 extended vs z = record z { state = record z.state { variables = vs } }
@@ -58,7 +62,7 @@ module _ (setting : Setting) where
     made : (w' : World) (z' : FlatState) (regs' : Registers) (y' : MidState) → BoxesMade hs vs d z.state.variables w w' z z' regs regs' y y' → r ≡ next z' → q ≡ rest regs' y'
         → BoxesEnd hs vs d w z regs y next rest r q
     no_words : FullThere setting r q → BoxesEnd hs vs d w z regs y next rest r q
-    no_space : Stopped setting r q → BoxesEnd hs vs d w z regs y next rest r q
+    no_space : Stopped setting box_cost z y r q → BoxesEnd hs vs d w z regs y next rest r q
 
   abbrev pub LawOfBoxes : Type 0
   LawOfBoxes =
