@@ -14,7 +14,7 @@ use Rattle.lang_meaning.specs.declared.kinds.OverTwo.TheVariants.{Apply, While, 
 use Rattle.lang_derived.specs.Asked.{list_items}
 use Rattle.lang_derived.specs.Derived.{Derivation, plain, unfit, becomes, derivation}
 use Rattle.front_profile.specs.declared.elaboration.Leaf.TheVariants.{NextMethod, HasNext}
-use Rattle.front_profile.specs.declared.elaboration.DefinedAs.TheVariants.{Function}
+use Rattle.front_profile.specs.declared.elaboration.DefinedAs.TheVariants.{Function, Macro}
 use Rattle.front_profile.specs.declared.elaboration.Elaboration.TheVariants.{OfTwo, CallOfValue}
 use Rattle.front_profile.specs.declared.special.Special.{Special}
 use Rattle.front_profile.specs.declared.special.Special.TheVariants as name
