@@ -62,7 +62,7 @@ module _ (P : Place → Type 0) where
   special_in names name.Defconstant a s p ds q g = global_in P true a s p ds q g
   special_in names name.Defdynamic a s p ds q g = defdynamic_in P a s p ds q g
   special_in names name.Defun a s p ds q g = defun_in P Function (first_reserved names ds) a s p ds q g
-  special_in names name.Defmacro a s p ds q g = q
+  special_in names name.Defmacro a s p ds q g = defun_in P Macro (first_reserved names ds) a s p ds q g
   special_in names name.Defclass a s p ds q g = defclass_in P names a s p ds q g
   special_in names name.Defgeneric a s p ds q g = defgeneric_in P names a s p ds q g
   special_in names name.Defmethod a s p ds q g = defmethod_in P names a s p ds q g

@@ -2,7 +2,6 @@
 use Rattle.std.specs.Prelude.{ℕ, List}
 use Rattle.base.specs.Names.{Extends}
 use Rattle.base.specs.declared.origin.Origin.TheVariants.{Prelude, File}
-use Rattle.front_profile.specs.declared.tables.Tables.{Tables}
 use Rattle.front_reader.specs.Readers.{first_place}
 use Rattle.front_files.specs.declared.mode.Mode.{Mode}
 use Rattle.front_files.specs.declared.mode.Mode.TheVariants.{Run}
