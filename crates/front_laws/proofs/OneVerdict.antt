@@ -1,5 +1,6 @@
 -- Two verdicts on a file, each under a table of its own, are one, names taken by their texts.
 use Rattle.std.specs.Prelude.{◌≡◌, ℕ, List, []}
+use Rattle.std.proofs.Common.{sym}
 use Rattle.base.specs.declared.reason.Refusal.{Refusal}
 use Rattle.base.specs.Names.{IsTable, Extends}
 use Rattle.lang_meaning.specs.declared.program.ProgramRows.{ProgramRows}
