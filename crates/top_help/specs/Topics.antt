@@ -1,7 +1,7 @@
 -- What `explain` prints, topic by topic: the script text/join writes this file, from docs/REFUSALS.md and docs/CONDITIONS.md.
 use Rattle.std.specs.Prelude.{ℕ, List, [], ◌∷◌, codes}
 use Rattle.top_help.specs.declared.topics.Topic.{Topic as Written}
-use Rattle.top_help.specs.declared.topics.TheConstants.{BAD_BYTE, UNCLOSED_LIST, UNCLOSED_STRING, UNCLOSED_COMMENT, STRAY_CLOSE, BAD_DOT, BAD_SHARP, FLOAT_LITERAL, INTEGER_TOO_WIDE, NEST_TOO_DEEP, SOURCE_TOO_LONG, NAME_TOO_LONG, BAD_SHAPE, NOT_AFORM, BAD_BINDING, DUPLICATE_NAME, NOT_TOP_LEVEL, RESERVED_NAME, UNKNOWN_BLOCK, UNKNOWN_TAG, CONSTANT_SET, LEFT_OUT, DEPTH_LIMIT, PROGRAM_TOO_LARGE, UNKNOWN_CLASS, BAD_SUPERS, BAD_SLOT, UNKNOWN_GENERIC, BAD_METHOD, DISPATCH_TOO_LARGE, NOT_BUILT, DOMAIN_ERROR, PROGRAM_ERROR, UNDEFINED_FUNCTION, UNBOUND_VARIABLE, DIVISION_BY_ZERO, INTEGER_OVERFLOW, CONTROL_ERROR, SIMPLE_ERROR, END_OF_STREAM, PARSE_ERROR, STORAGE_EXHAUSTED}
+use Rattle.top_help.specs.declared.topics.TheConstants.{BAD_BYTE, UNCLOSED_LIST, UNCLOSED_STRING, UNCLOSED_COMMENT, STRAY_CLOSE, BAD_DOT, BAD_SHARP, FLOAT_LITERAL, INTEGER_TOO_WIDE, NEST_TOO_DEEP, SOURCE_TOO_LONG, NAME_TOO_LONG, BAD_SHAPE, NOT_AFORM, BAD_BINDING, DUPLICATE_NAME, NOT_TOP_LEVEL, RESERVED_NAME, UNKNOWN_BLOCK, UNKNOWN_TAG, CONSTANT_SET, LEFT_OUT, DEPTH_LIMIT, PROGRAM_TOO_LARGE, UNKNOWN_CLASS, BAD_SUPERS, BAD_SLOT, UNKNOWN_GENERIC, BAD_METHOD, DISPATCH_TOO_LARGE, DOMAIN_ERROR, PROGRAM_ERROR, UNDEFINED_FUNCTION, UNBOUND_VARIABLE, DIVISION_BY_ZERO, INTEGER_OVERFLOW, CONTROL_ERROR, SIMPLE_ERROR, END_OF_STREAM, PARSE_ERROR, STORAGE_EXHAUSTED}
 
 -- a reason by its number and its name, or a class by its name without brackets and with them
 pub record Topic : Type 0 where
@@ -49,7 +49,6 @@ topics =
     topic (codes "43") (codes "UnknownGeneric") UNKNOWN_GENERIC.now ∷
     topic (codes "44") (codes "BadMethod") BAD_METHOD.now ∷
     topic (codes "45") (codes "DispatchTooLarge") DISPATCH_TOO_LARGE.now ∷
-    topic (codes "90") (codes "NotBuilt") NOT_BUILT.now ∷
     topic (codes "domain-error") (codes "<domain-error>") DOMAIN_ERROR.now ∷
     topic (codes "program-error") (codes "<program-error>") PROGRAM_ERROR.now ∷
     topic (codes "undefined-function") (codes "<undefined-function>") UNDEFINED_FUNCTION.now ∷

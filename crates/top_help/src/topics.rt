@@ -241,13 +241,6 @@ pub const DISPATCH_TOO_LARGE: &[u8] = br##"refused 45 DispatchTooLarge
     refused at 1:1
 "##;
 
-/// Of NotBuilt.
-pub const NOT_BUILT: &[u8] = br##"refused 90 NotBuilt
-  exactly where: a form with the head `defmacro`, until macros are built
-  place: the form
-  for example: `(defmacro m ())`, refused at 1:1
-"##;
-
 /// Of `<domain-error>`.
 pub const DOMAIN_ERROR: &[u8] = br##"unhandled <domain-error>
   cause: an argument is of a wrong class: `car` or `cdr` of what is no cons, `nil` too
@@ -399,7 +392,7 @@ pub(crate) struct Topic {
 }
 
 /// All that is explained.
-pub(crate) fn topics() -> [Topic; 42]
+pub(crate) fn topics() -> [Topic; 41]
     ensures { view_topics result ≡ all_topics }
 {
     [
@@ -552,11 +545,6 @@ pub(crate) fn topics() -> [Topic; 42]
             short: b"45",
             name: b"DispatchTooLarge",
             text: DISPATCH_TOO_LARGE,
-        },
-        Topic {
-            short: b"90",
-            name: b"NotBuilt",
-            text: NOT_BUILT,
         },
         Topic {
             short: b"domain-error",
