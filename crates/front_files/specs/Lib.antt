@@ -1,4 +1,5 @@
 pub mod Shown
 pub mod Verdicts
 pub mod Exact
+pub mod WithoutMacros
 pub mod bridge

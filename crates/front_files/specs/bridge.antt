@@ -1,4 +1,5 @@
 pub mod Stopping
+pub mod Leaving
 pub mod Later
 pub mod First
 pub mod LaterVerdicts

@@ -9,22 +9,23 @@ ghost use Rattle.front_files.specs.declared.mode.Mode.TheVariants.{Run};
 ghost use Rattle.front_profile.specs.Exact.{OneExpansion};
 ghost use Rattle.front_files.specs.Exact.{IsExactRefusal, IsExactVerdict};
 ghost use Rattle.front_files.specs.Verdicts.{FileVerdict, accepted, refused, Verdict, IsOfFile};
+ghost use Rattle.front_files.specs.WithoutMacros.{VerdictWithoutMacros};
 
-use front_profile::laws::{law_macros, law_one_verdict as law_one_verdict_of_a_form};
+use front_profile::laws::{law_growth, law_one_verdict as law_one_verdict_of_a_form};
 use front_reader::laws::{law_end, law_next_or_stops, law_one_datum, law_one_stop};
 
-/// A prelude and a text have at most one verdict in each mode, where names are numbered by one table: as long as no
-/// form defines a macro; and with macros, of verdicts that are not given for want of words or of instructions of an
-/// expander, where calls of macros have one expansion.
+/// A prelude and a text have at most one verdict in each mode, where names are numbered by one table: where no form
+/// that is taken on the way to one of two verdicts defines a macro they are one; and with macros, of verdicts that are
+/// not given for want of words or of instructions of an expander, where calls of macros have one expansion.
 pub fn law_one_verdict()
     ensures without { (names : List (List ℕ)) (prelude text : List ℕ) (mode : mode_of) (v w : FileVerdict) →
-        IsTable names → Verdict names prelude text mode v → Verdict names prelude text mode w → v ≡ w }
+        IsTable names → VerdictWithoutMacros names prelude text mode v → Verdict names prelude text mode w → v ≡ w }
     ensures exact { (names : List (List ℕ)) (prelude text : List ℕ) (mode : mode_of) (v w : FileVerdict) →
         IsTable names → OneExpansion names → IsExactVerdict v → IsExactVerdict w →
         Verdict names prelude text mode v → Verdict names prelude text mode w → v ≡ w }
 {
     law_one_verdict_of_a_form();
-    law_macros();
+    law_growth();
     law_one_datum();
     law_one_stop();
     law_next_or_stops();
@@ -32,12 +33,12 @@ pub fn law_one_verdict()
 }
 
 /// A prelude that is accepted in front of the empty file refuses no file: what refuses a file is its length, or stands
-/// in it. So it is as long as no form defines a macro; and with macros, of refusals that are not for want of words or of
-/// instructions of an expander, where calls of macros have one expansion.
+/// in it. So it is where the prelude defines no macro; and where it does, of refusals that are not for want of words or
+/// of instructions of an expander, where calls of macros have one expansion.
 pub fn law_prelude()
     ensures without { (names : List (List ℕ)) (prelude text : List ℕ) (mode : mode_of) (program : program_rows)
         (r : refusal) → IsTable names →
-        Verdict names prelude [] Run (accepted program) → Verdict names prelude text mode (refused r) →
+        VerdictWithoutMacros names prelude [] Run (accepted program) → Verdict names prelude text mode (refused r) →
         IsOfFile names text mode r }
     ensures exact { (names : List (List ℕ)) (prelude text : List ℕ) (mode : mode_of) (program : program_rows)
         (r : refusal) → IsTable names → OneExpansion names → IsExactRefusal r →
@@ -45,16 +46,18 @@ pub fn law_prelude()
         IsOfFile names text mode r }
 {
     law_one_verdict_of_a_form();
-    law_macros();
+    law_growth();
     law_one_datum();
     law_one_stop();
     law_next_or_stops();
     law_end();
 }
 
-/// A verdict stays under every later table of names. So two verdicts whose tables are the beginnings of
-/// one table are one verdict.
+/// A verdict stays under every later table of names, and so does one on the way to which no macro is defined. So two
+/// verdicts whose tables are the beginnings of one table are one verdict.
 pub fn law_names_apart()
-    ensures { (old new : List (List ℕ)) (prelude text : List ℕ) (mode : mode_of) (v : FileVerdict) → Extends old new →
+    ensures verdict { (old new : List (List ℕ)) (prelude text : List ℕ) (mode : mode_of) (v : FileVerdict) → Extends old new →
         Verdict old prelude text mode v → Verdict new prelude text mode v }
+    ensures without { (old new : List (List ℕ)) (prelude text : List ℕ) (mode : mode_of) (v : FileVerdict) → Extends old new →
+        VerdictWithoutMacros old prelude text mode v → VerdictWithoutMacros new prelude text mode v }
 {}

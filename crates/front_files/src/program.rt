@@ -104,7 +104,7 @@ pub fn read_program_with<X: Expanding>(
     }
 }
 
-/// The same where no call of a macro is expanded: `defmacro` is not built yet, so no form calls one.
+/// The same where no call of a macro is expanded: one is want of memory.
 pub fn read_program(alloc: Global, text: &[u8], prelude: &[u8], mode: Mode) -> Result<Whole, Stop>
     ensures program { IfOk result (λ whole. Accepts prelude.now text.now mode whole.names whole.program) }
     ensures stops { IfErr result (IsNoProgram prelude.now text.now mode) }

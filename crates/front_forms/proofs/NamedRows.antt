@@ -13,7 +13,7 @@ use Rattle.front_profile.specs.declared.bound.Bound.{Bound}
 use Rattle.front_profile.specs.declared.parameters.Parameters.{Parameters}
 use Rattle.front_profile.specs.declared.bound.Target.{Target}
 use Rattle.front_profile.specs.declared.elaboration.DefinedAs.{DefinedAs}
-use Rattle.front_profile.specs.declared.elaboration.DefinedAs.TheVariants.{Function}
+use Rattle.front_profile.specs.declared.elaboration.DefinedAs.TheVariants.{Function, Macro}
 use Rattle.front_profile.specs.declared.elaboration.Leaf.{Leaf}
 use Rattle.front_profile.specs.declared.special.Special.{Special}
 use Rattle.front_profile.specs.declared.special.Special.TheVariants as name
@@ -403,7 +403,7 @@ special_said names name.Defglobal a s p ds h = global_said false a s p ds
 special_said names name.Defconstant a s p ds h = global_said true a s p ds
 special_said names name.Defdynamic a s p ds h = defdynamic_said a s p ds
 special_said names name.Defun a s p ds h = defun_said Function (first_reserved names ds) a s p ds
-special_said names name.Defmacro a s p ds h = record { said = refl }
+special_said names name.Defmacro a s p ds h = defun_said Macro (first_reserved names ds) a s p ds
 special_said names name.Defclass a s p ds h = defclass_said names a s p ds h
 special_said names name.Defgeneric a s p ds h = defgeneric_said names a s p ds h
 special_said names name.Defmethod a s p ds h = defmethod_said names a s p ds h

@@ -138,7 +138,12 @@ fn special_draft<'a>(
             first_reserved(names, items),
             items,
         ),
-        Special::Defmacro => Ok(offence(here.place, Reason::NotBuilt)),
+        Special::Defmacro => defun_draft(
+            here,
+            DefinedAs::Macro,
+            first_reserved(names, items),
+            items,
+        ),
         Special::Defclass => defclass_draft(here, names, items),
         Special::Defgeneric => defgeneric_draft(here, names, items),
         Special::Defmethod => defmethod_draft(here, names, items),

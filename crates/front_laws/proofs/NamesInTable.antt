@@ -1,4 +1,4 @@
--- All names of an accepted program stand in its table. A number behind the table has one text under one later table, and another text under
+-- All names of an accepted program that defines no macro stand in its table. A number behind the table has one text under one later table, and another text under
 -- another one, and the program is the same under both: so it has not that number.
 use Rattle.std.specs.Prelude.{◌≡◌, ℕ, zero, suc, ◌+◌, ◌<◌, ◌⊎◌, List, [], ◌∷◌, length, map, Some, slice_get}
 use Rattle.std.proofs.Common.{arith, ap, sym, ◌∙◌, subst, inl, inr, ⊎_elim}
@@ -7,16 +7,18 @@ use Rattle.base.specs.Names.{IsTable, Extends, slice_get-behind, text_stays}
 use Rattle.lang_meaning.specs.declared.program.ProgramRows.{ProgramRows}
 use Rattle.front_files.specs.declared.mode.Mode.{Mode}
 use Rattle.front_files.specs.Verdicts.{accepted, Accepts}
+use Rattle.front_files.specs.WithoutMacros.{AcceptsWithoutMacros}
 use Rattle.lang_renamed.specs.ProgramNames.{program_names}
 use Rattle.lang_renamed.proofs.Names.{names_renamed}
 use Rattle.front_laws.specs.SamePrograms.{SameProgram}
-use Rattle.front_laws.proofs.OneVerdict.{Stays}
+use Rattle.front_laws.proofs.OneVerdict.{StaysWithout, of_accepted}
 use Rattle.front_laws.proofs.FreshTexts.{new_text, with_new, table_with_new, extends_with_new, new_differ, longer}
 
 -- two programs of a text are the same
 abbrev pub IsOneProgram : Type 0
 IsOneProgram =
-    (prelude text : List ℕ) (mode : Mode) (a b : List (List ℕ)) (p q : ProgramRows) → Accepts prelude text mode a p → Accepts prelude text mode b q → SameProgram a p b q
+    (prelude text : List ℕ) (mode : Mode) (a b : List (List ℕ)) (p q : ProgramRows) → Accepts prelude text mode a p → AcceptsWithoutMacros prelude text mode b q →
+    SameProgram a p b q
 
 -- what a renaming leaves as it is, it leaves item by item
 fixed : (r : ℕ → ℕ) (ns : List ℕ) → ns ≡ map r ns → AllOf (λ n. r n ≡ n) ns
@@ -38,18 +40,20 @@ all_below : (m : ℕ) (ns : List ℕ) → ((k : ℕ) → AllOf (λ n. n ≡ m + 
 all_below m [] h = tt
 all_below m (n ∷ ns) h = (⊎_elim (λ b. b) (λ b. absurd ((h b.0).0 b.1)) (below_or_behind m n), all_below m ns (λ k. (h k).1))
 
-module _ (stays : Stays) (one : IsOneProgram) (prelude text : List ℕ) (mode : Mode) (p : ProgramRows) where
-  later : (a b : List (List ℕ)) → Extends a b → IsTable b → Accepts prelude text mode a p → Accepts prelude text mode b p
-  later a b e t g = record { table = t; verdict = stays a b prelude text mode (accepted p) e g.verdict }
+module _ (stays : StaysWithout) (one : IsOneProgram) (prelude text : List ℕ) (mode : Mode) (p : ProgramRows) where
+  later : (a b : List (List ℕ)) → Extends a b → IsTable b → AcceptsWithoutMacros prelude text mode a p → AcceptsWithoutMacros prelude text mode b p
+  later a b e t g =
+      let stays_there = stays a b prelude text mode (accepted p) e (of_accepted prelude text mode a p g) in
+      record { accepts = record { table = t; verdict = stays_there.verdict }; none = stays_there.none }
 
   -- it has not the next number
-  not_next : (a : List (List ℕ)) → Accepts prelude text mode a p → AllOf (λ n. n ≡ length a → ⊥) (program_names p)
+  not_next : (a : List (List ℕ)) → AcceptsWithoutMacros prelude text mode a p → AllOf (λ n. n ≡ length a → ⊥) (program_names p)
   not_next a g = all_map (λ n. x.renaming n ≡ n) (λ n. n ≡ length a → ⊥) differs (program_names p) (names_fixed x)
     where
       x : SameProgram (with_new a 0) p (with_new a 1) p
       x =
-          one prelude text mode (with_new a 0) (with_new a 1) p p (later a (with_new a 0) (extends_with_new a 0) (table_with_new a 0 g.table) g)
-          (later a (with_new a 1) (extends_with_new a 1) (table_with_new a 1 g.table) g)
+          one prelude text mode (with_new a 0) (with_new a 1) p p (later a (with_new a 0) (extends_with_new a 0) (table_with_new a 0 g.accepts.table) g).accepts
+          (later a (with_new a 1) (extends_with_new a 1) (table_with_new a 1 g.accepts.table) g)
 
       here : slice_get x.later_a (length a) ≡ Some (new_text a 0)
       here = text_stays (with_new a 0) x.later_a (length a) (new_text a 0) x.extends_a (slice_get-behind a (new_text a 0))
@@ -63,10 +67,10 @@ module _ (stays : Stays) (one : IsOneProgram) (prelude text : List ℕ) (mode : 
           let two : Some (new_text a 0) ≡ Some (new_text a 1) = sym here ∙ ap (slice_get x.later_a) (sym stands) ∙ x.renames.texts (length a) ∙ there in
           new_differ a (cc)
 
-  pub names_in_table : (a : List (List ℕ)) → Accepts prelude text mode a p → AllOf (λ n. n < length a) (program_names p)
+  pub names_in_table : (a : List (List ℕ)) → AcceptsWithoutMacros prelude text mode a p → AllOf (λ n. n < length a) (program_names p)
   names_in_table a g = all_below (length a) (program_names p) not_behind
     where
       not_behind : (k : ℕ) → AllOf (λ n. n ≡ length a + k → ⊥) (program_names p)
       not_behind k =
-          let t = longer a g.table k in
+          let t = longer a g.accepts.table k in
           subst (λ m. AllOf (λ n. n ≡ m → ⊥) (program_names p)) t.long (not_next t.later (later a t.later t.extends t.table g))

@@ -15,7 +15,7 @@ use Rattle.lang_meaning.specs.declared.program.GenericRow.{GenericRow}
 use Rattle.front_profile.specs.declared.mark.Mark.{Mark}
 use Rattle.front_profile.specs.declared.tables.Tables.{Tables}
 use Rattle.front_profile.specs.Cuts.{method_counts, mark_of, opened}
-use Rattle.front_profile.specs.Nodes.{StaticContext, Verdict}
+use Rattle.front_profile.specs.Nodes.{StaticContext, Verdict, stands}
 use Rattle.front_profile.specs.Rows.{node}
 use Rattle.front_profile.specs.Judged.{Elaborates}
 use Rattle.front_profile.specs.Promises.{FormComes}
@@ -26,8 +26,11 @@ use Rattle.front_files.specs.declared.mode.Mode.TheVariants.{Run}
 use Rattle.front_files.specs.Shown.{first_text, head_text, is_among, not_shown, stays, printing_at, IsPrinting, IsForm, runs, not_last, last_stays, last_shown}
 use Rattle.front_files.specs.Verdicts.{Judgement, all_taken, one_refused, Judges, at_end, form_taken, form_refused, text_stops, FileVerdict, BehindPrelude, source_too_long, prelude_refused, file_refused, file_accepted}
 use Rattle.front_files.specs.Verdicts.{Verdict as FileIs}
-use Rattle.front_profile.proofs.Macros.{form_keeps_macros}
-use Rattle.front_files.proofs.Told.{WithoutMacros, first_without, given_without}
+use Rattle.front_profile.proofs.Growing.{begins_node}
+use Rattle.front_profile.proofs.Grown.{node_grows}
+use Rattle.front_files.specs.WithoutMacros.{TextLeaves, PreludeLeaves, VerdictLeaves, WithoutMacros, VerdictWithoutMacros}
+use Rattle.front_files.specs.bridge.Leaving.{JudgesLeaving, PreludeLeaving, front_such, text_leaves}
+use Rattle.front_files.proofs.Told.{before_without}
 use Rattle.lang_renamed.specs.Renaming.{name_by, symbol_by, item_by, items_by, form_by, literal_by, procedure_by, function_by, class_by, generic_by}
 use Rattle.lang_renamed.proofs.Lists.{length_by}
 use Rattle.front_laws.specs.Renaming.{Renames, file_verdict_by}
@@ -82,6 +85,10 @@ module _ (r : ℕ → ℕ) where
 
   at_form_by : (d : Item) (why : Reason) → at_form (item_by r d) why ≡ at_form d why
   at_form_by d why = ap (λ (p : Place). record { place = p; reason = why }) (place_by r d)
+
+-- where there are no macros behind a form there are none in front of it
+none_before : {names : List (List ℕ)} (origin : Origin) (s : Tables) (d : Item) (t : Tables) → WithoutMacros t → IsElaborated names origin (opened s) d t → WithoutMacros s
+none_before {names} origin s d t none g = before_without (λ ns a u e m h. node_grows ns (node ns a u e) (stands m) h u (begins_node ns u a e)) names origin s d t none g
 
 module _ (r : ℕ → ℕ) (old new : List (List ℕ)) (w : Renames r old new) (table : IsTable new) where
   finds : FindsNames r old new
@@ -148,9 +155,13 @@ module _ (r : ℕ → ℕ) (old new : List (List ℕ)) (w : Renames r old new) (
   next_stopped origin s d x none y =
       subst (λ (u : Tables). IsFormStopped new origin u (item_by r d) (Refused x)) (opened_by r s) (stopped_by origin (opened s) d x (ap length none) y)
 
-  -- there are none behind one that is taken
-  none_then : (origin : Origin) (s : Tables) (d : Item) (t : Tables) → WithoutMacros s → IsTaken old origin (opened s) d t → WithoutMacros t
-  none_then origin s d t none x = given_without form_keeps_macros old origin s d t none x.given
+  -- where there are none behind a text there are none in front of it
+  front_without : (origin : Origin) (mode : Mode) (s : Tables) (text : List ℕ) (p : Place) (j : Judgement) → (g : Judges old origin mode s text p j) →
+      TextLeaves WithoutMacros old origin mode s text p j g → WithoutMacros s
+  front_without = front_such WithoutMacros old none_before
+
+  none_by : (s : Tables) → WithoutMacros s → WithoutMacros (tables_by r s)
+  none_by s none = ap (map (macro_by r)) none
 
   -- ---- the form that is judged for a datum
 
@@ -188,46 +199,56 @@ module _ (r : ℕ → ℕ) (old new : List (List ℕ)) (w : Renames r old new) (
 
   -- ---- a text
 
-  judges_by : (origin : Origin) (mode : Mode) (s : Tables) (text : List ℕ) (p : Place) (j : Judgement) → WithoutMacros s → Judges old origin mode s text p j →
-      Judges new origin mode (tables_by r s) text p (judgement_by r j)
-  judges_by origin mode _ _ _ _ none (at_end s text p g) = at_end (tables_by r s) text p g
-  judges_by origin mode _ _ _ _ none (form_taken s text p d after t j x f rest) =
-      form_taken (tables_by r s) text p (item_by r d) after (tables_by r t) (judgement_by r j) (next_by r old new w table text p d after x)
-      (record { form = item_by r f.form; is_form = judged_form_by mode d after f.form f.is_form; taken = next_taken origin s f.form t none f.taken })
-      (judges_by origin mode t after _ j (none_then origin s f.form t none f.taken) rest)
-  judges_by origin mode _ _ _ _ none (form_refused s text p d after y x f) =
-      form_refused (tables_by r s) text p (item_by r d) after y (next_by r old new w table text p d after x)
-      (record { form = item_by r f.form; is_form = judged_form_by mode d after f.form f.is_form; refused = next_stopped origin s f.form y none f.refused })
-  judges_by origin mode _ _ _ _ none (text_stops s text p y x) = text_stops (tables_by r s) text p y x
-
-  prelude_by : (prelude : List ℕ) (j : Judgement) → BehindPrelude old prelude j → BehindPrelude new prelude (judgement_by r j)
-  prelude_by prelude j x = record {
-    first = tables_by r x.first;
-    is_first = first_from r old new w x.first x.is_first;
-    judges = judges_by Prelude Run x.first prelude (first_place Prelude) j (first_without old x.first x.is_first) x.judges;
+  judges_by : (origin : Origin) (mode : Mode) (s : Tables) (text : List ℕ) (p : Place) (j : Judgement) → (g : Judges old origin mode s text p j) →
+      TextLeaves WithoutMacros old origin mode s text p j g → JudgesLeaving WithoutMacros new origin mode (tables_by r s) text p (judgement_by r j)
+  judges_by origin mode _ _ _ _ (at_end s text p g) none = record { judges = at_end (tables_by r s) text p g; leaves = none_by s none }
+  judges_by origin mode _ _ _ _ (form_taken s text p d after t j x f rest) none =
+      let here : WithoutMacros s = front_without origin mode s text p j (form_taken s text p d after t j x f rest) none in
+      let more = judges_by origin mode t after _ j rest none in
+      record {
+        judges =
+            form_taken (tables_by r s) text p (item_by r d) after (tables_by r t) (judgement_by r j) (next_by r old new w table text p d after x)
+            (record { form = item_by r f.form; is_form = judged_form_by mode d after f.form f.is_form; taken = next_taken origin s f.form t here f.taken })
+            more.judges;
+        leaves = more.leaves;
+      }
+  judges_by origin mode _ _ _ _ (form_refused s text p d after y x f) none = record {
+    judges =
+        form_refused (tables_by r s) text p (item_by r d) after y (next_by r old new w table text p d after x)
+        (record { form = item_by r f.form; is_form = judged_form_by mode d after f.form f.is_form; refused = next_stopped origin s f.form y none f.refused });
+    leaves = none_by s none;
   }
+  judges_by origin mode _ _ _ _ (text_stops s text p y x) none = record { judges = text_stops (tables_by r s) text p y x; leaves = none_by s none }
+
+  prelude_by : (prelude : List ℕ) (j : Judgement) (x : BehindPrelude old prelude j) → PreludeLeaves WithoutMacros old prelude j x → PreludeLeaving WithoutMacros new prelude (judgement_by r j)
+  prelude_by prelude j x none =
+      let left = judges_by Prelude Run x.first prelude (first_place Prelude) j x.judges none in
+      record {
+        behind = record { first = tables_by r x.first; is_first = first_from r old new w x.first x.is_first; judges = left.judges };
+        leaves = left.leaves;
+      }
+
+  taken_by_prelude : (prelude : List ℕ) (t : Tables) (x : BehindPrelude old prelude (all_taken t)) → WithoutMacros t → BehindPrelude new prelude (all_taken (tables_by r t))
+  taken_by_prelude prelude t x none =
+      (prelude_by prelude (all_taken t) x (text_leaves WithoutMacros old Prelude Run x.first prelude (first_place Prelude) (all_taken t) x.judges none)).behind
 
   -- ---- a file
 
-  abbrev BehindWithout : Judgement → Type 0
-  BehindWithout (all_taken t) = WithoutMacros t
-  BehindWithout (one_refused x) = Unit {0}
+  verdict_of_file_by : (prelude text : List ℕ) (mode : Mode) (v : FileVerdict) (g : FileIs old prelude text mode v) → VerdictLeaves WithoutMacros old prelude text mode v g →
+      VerdictWithoutMacros new prelude text mode (file_verdict_by r v)
+  verdict_of_file_by prelude text mode _ (source_too_long l) none = record { verdict = source_too_long l; none = tt }
+  verdict_of_file_by prelude text mode _ (prelude_refused x l b) none =
+      let left = prelude_by prelude (one_refused x) b none in
+      record { verdict = prelude_refused x l left.behind; none = left.leaves }
+  verdict_of_file_by prelude text mode _ (file_refused t x l b h) none =
+      let left = judges_by File mode t text (first_place File) (one_refused x) h none in
+      let here : WithoutMacros t = front_without File mode t text (first_place File) (one_refused x) h none in
+      record { verdict = file_refused (tables_by r t) x l (taken_by_prelude prelude t b here) left.judges; none = left.leaves }
+  verdict_of_file_by prelude text mode _ (file_accepted t u l b h) none =
+      let leaves = text_leaves WithoutMacros old File mode t text (first_place File) (all_taken u) h none in
+      let left = judges_by File mode t text (first_place File) (all_taken u) h leaves in
+      let here : WithoutMacros t = front_without File mode t text (first_place File) (all_taken u) h leaves in
+      record { verdict = file_accepted (tables_by r t) (tables_by r u) l (taken_by_prelude prelude t b here) left.judges; none = none_by u none }
 
-  judges_without : (origin : Origin) (mode : Mode) (s : Tables) (text : List ℕ) (p : Place) (j : Judgement) → WithoutMacros s → Judges old origin mode s text p j →
-      BehindWithout j
-  judges_without origin mode _ _ _ _ none (at_end s text p g) = none
-  judges_without origin mode _ _ _ _ none (form_taken s text p d after t j x f rest) =
-      judges_without origin mode t after _ j (none_then origin s f.form t none f.taken) rest
-  judges_without origin mode _ _ _ _ none (form_refused s text p d after y x f) = tt
-  judges_without origin mode _ _ _ _ none (text_stops s text p y x) = tt
-
-  behind_without : (prelude : List ℕ) (t : Tables) → BehindPrelude old prelude (all_taken t) → WithoutMacros t
-  behind_without prelude t x = judges_without Prelude Run x.first prelude (first_place Prelude) (all_taken t) (first_without old x.first x.is_first) x.judges
-
-  pub file_by : (prelude text : List ℕ) (mode : Mode) (v : FileVerdict) → FileIs old prelude text mode v → FileIs new prelude text mode (file_verdict_by r v)
-  file_by prelude text mode _ (source_too_long l) = source_too_long l
-  file_by prelude text mode _ (prelude_refused x l b) = prelude_refused x l (prelude_by prelude (one_refused x) b)
-  file_by prelude text mode _ (file_refused t x l b h) =
-      file_refused (tables_by r t) x l (prelude_by prelude (all_taken t) b) (judges_by File mode t text (first_place File) (one_refused x) (behind_without prelude t b) h)
-  file_by prelude text mode _ (file_accepted t u l b h) =
-      file_accepted (tables_by r t) (tables_by r u) l (prelude_by prelude (all_taken t) b) (judges_by File mode t text (first_place File) (all_taken u) (behind_without prelude t b) h)
+  pub file_by : (prelude text : List ℕ) (mode : Mode) (v : FileVerdict) → VerdictWithoutMacros old prelude text mode v → VerdictWithoutMacros new prelude text mode (file_verdict_by r v)
+  file_by prelude text mode v g = verdict_of_file_by prelude text mode v g.verdict g.none

@@ -14,7 +14,7 @@ use Rattle.lang_meaning.specs.declared.kinds.OverTwo.TheVariants.{Apply, While, 
 use Rattle.lang_derived.specs.Asked.{list_items}
 use Rattle.lang_derived.specs.Derived.{Derivation, plain, unfit, becomes, derivation}
 use Rattle.front_profile.specs.declared.elaboration.Leaf.TheVariants.{NextMethod, HasNext}
-use Rattle.front_profile.specs.declared.elaboration.DefinedAs.TheVariants.{Function}
+use Rattle.front_profile.specs.declared.elaboration.DefinedAs.TheVariants.{Function, Macro}
 use Rattle.front_profile.specs.declared.elaboration.Elaboration.TheVariants.{OfTwo, CallOfValue}
 use Rattle.front_profile.specs.declared.special.Special.{Special}
 use Rattle.front_profile.specs.declared.special.Special.TheVariants as name
@@ -99,7 +99,8 @@ module _ (r : ℕ → ℕ) (old new : List (List ℕ)) (w : Renames r old new) (
   special_by name.Defdynamic a s p ds = defdynamic_by r old new w a s p ds
   special_by name.Defun a s p ds =
       ap (λ kept. defun_row Function kept (context_by r a) (tables_by r s) p (data_by r ds)) (first_reserved_by ds) ∙ defun_by r old new w Function (first_reserved old ds) a s p ds
-  special_by name.Defmacro a s p ds = refl
+  special_by name.Defmacro a s p ds =
+      ap (λ kept. defun_row Macro kept (context_by r a) (tables_by r s) p (data_by r ds)) (first_reserved_by ds) ∙ defun_by r old new w Macro (first_reserved old ds) a s p ds
   special_by name.Defclass a s p ds = defclass_by r old new w table a s p ds
   special_by name.Defgeneric a s p ds = defgeneric_by r old new w table a s p ds
   special_by name.Defmethod a s p ds = defmethod_by r old new w table a s p ds

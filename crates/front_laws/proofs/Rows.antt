@@ -12,7 +12,7 @@ use Rattle.lang_meaning.specs.declared.kinds.OverTwo.TheVariants.{Apply, While, 
 use Rattle.lang_derived.specs.Asked.{list_items, is_word}
 use Rattle.lang_derived.specs.Derived.{Derivation, plain, unfit, becomes, derivation}
 use Rattle.front_profile.specs.declared.elaboration.Leaf.TheVariants.{NextMethod, HasNext}
-use Rattle.front_profile.specs.declared.elaboration.DefinedAs.TheVariants.{Function}
+use Rattle.front_profile.specs.declared.elaboration.DefinedAs.TheVariants.{Function, Macro}
 use Rattle.front_profile.specs.declared.elaboration.Elaboration.TheVariants.{CallOfValue}
 use Rattle.front_profile.specs.declared.special.Special.{Special}
 use Rattle.front_profile.specs.declared.special.Special.TheVariants as name
@@ -62,7 +62,7 @@ module _ (P : Place → Type 0) where
   special_in names name.Defconstant a s p ds q g = global_in P true a s p ds q g
   special_in names name.Defdynamic a s p ds q g = defdynamic_in P a s p ds q g
   special_in names name.Defun a s p ds q g = defun_in P Function (first_reserved names ds) a s p ds q g
-  special_in names name.Defmacro a s p ds q g = q
+  special_in names name.Defmacro a s p ds q g = defun_in P Macro (first_reserved names ds) a s p ds q g
   special_in names name.Defclass a s p ds q g = defclass_in P names a s p ds q g
   special_in names name.Defgeneric a s p ds q g = defgeneric_in P names a s p ds q g
   special_in names name.Defmethod a s p ds q g = defmethod_in P names a s p ds q g

@@ -16,7 +16,8 @@ ghost use Rattle.front_reader.specs.Reads.{ReadsNext};
 ghost use Rattle.front_reader.specs.Stops.{Stops};
 ghost use Rattle.front_files.specs.declared.mode.Mode.{Mode as mode_of};
 ghost use Rattle.front_files.specs.declared.mode.Mode.TheVariants.{Run};
-ghost use Rattle.front_files.specs.Verdicts.{one_refused, BehindPrelude, IsOfFile, Accepts, Refuses};
+ghost use Rattle.front_files.specs.Verdicts.{one_refused, BehindPrelude, IsOfFile, Refuses};
+ghost use Rattle.front_files.specs.WithoutMacros.{AcceptsWithoutMacros};
 ghost use Rattle.front_laws.specs.Places.{InText, IsPlaceIn};
 
 use front_files::laws::{law_names_apart, law_prelude};
@@ -50,11 +51,11 @@ pub fn law_refusal_of_prelude()
         r.place ≡ first_place Prelude }
 {}
 
-/// Behind a prelude that is accepted in front of the empty file each refusal of a file stands at a line and a column
-/// from 1 on, never at 0:0, where the forms of the prelude stand.
+/// Behind a prelude that is accepted in front of the empty file, and defines no macro, each refusal of a file stands at a
+/// line and a column from 1 on, never at 0:0, where the forms of the prelude stand.
 pub fn law_refusals_in_text()
     ensures { (prelude text : List ℕ) (mode : mode_of) (names : List (List ℕ)) (program : program_rows) (r : refusal) →
-        Accepts prelude [] Run names program → Refuses prelude text mode r → InText r.place }
+        AcceptsWithoutMacros prelude [] Run names program → Refuses prelude text mode r → InText r.place }
 {
     law_names_apart();
     law_prelude();

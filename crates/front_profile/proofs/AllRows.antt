@@ -15,7 +15,7 @@ use Rattle.lang_derived.specs.Asked.{list_items}
 use Rattle.lang_derived.specs.Derived.{Derivation, plain, unfit, becomes, derivation}
 use Rattle.front_profile.specs.declared.elaboration.Leaf.TheVariants.{NextMethod, HasNext}
 use Rattle.lang_meaning.specs.declared.kinds.OverTwo.TheVariants.{Apply, While, Catch, Throw, Unwind, WithHandler}
-use Rattle.front_profile.specs.declared.elaboration.DefinedAs.TheVariants.{Function}
+use Rattle.front_profile.specs.declared.elaboration.DefinedAs.TheVariants.{Function, Macro}
 use Rattle.front_profile.specs.declared.elaboration.Elaboration.TheVariants.{CallOfValue}
 use Rattle.front_profile.specs.declared.special.Special.{Special}
 use Rattle.front_profile.specs.declared.special.Special.TheVariants as name
@@ -74,7 +74,7 @@ module _ (rules : ClassRules) where
   apt_special names n name.Defconstant a s p ds b g = apt_global n true a s p ds b g
   apt_special names n name.Defdynamic a s p ds b g = apt_defdynamic n a s p ds b g
   apt_special names n name.Defun a s p ds b g = apt_defun n Function (first_reserved names ds) a s p ds b g
-  apt_special names n name.Defmacro a s p ds b g = tt
+  apt_special names n name.Defmacro a s p ds b g = apt_defun n Macro (first_reserved names ds) a s p ds b g
   apt_special names n name.Defclass a s p ds b g = apt_defclass rules names n a s p ds b g
   apt_special names n name.Defgeneric a s p ds b g = apt_defgeneric names n a s p ds b g
   apt_special names n name.Defmethod a s p ds b g = apt_defmethod names n a s p ds b g

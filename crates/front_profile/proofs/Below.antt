@@ -70,7 +70,7 @@ starts_from s t top (calls a u m d) g n h = (
 starts_from s t top (whole o i u xs m) g n h = record {
   grows = tables_grow_transitive s t u g h.grows;
   names = names_then s t u n.names h.names;
-  suited = ⊎_elim inl (λ (j : JoinsSuited t u xs m.making). inr (record { functions = j.functions; macros = j.macros; suits = λ keep w. j.suits keep (known_same s t n.names w) })) h.suited;
+  suited = ⊎_elim inl (λ (j : JoinsSuited t u xs m.making). inr (record { functions = j.functions; suits = λ keep w. j.suits keep (known_same s t n.names w) })) h.suited;
   low = λ e.
       let l : LowWhole t o i u xs m.making = h.low e in
       record { defined = none_then s t u n l.defined; parts = l.parts; ordinary = l.ordinary; makes = l.makes };

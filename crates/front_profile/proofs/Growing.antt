@@ -12,7 +12,7 @@ use Rattle.lang_derived.specs.Derived.{Derivation, plain, unfit, becomes, deriva
 use Rattle.front_profile.specs.declared.tables.Tables.{Tables}
 use Rattle.front_profile.specs.declared.elaboration.Leaf.TheVariants.{NextMethod, HasNext}
 use Rattle.lang_meaning.specs.declared.kinds.OverTwo.TheVariants.{Apply, While, Catch, Throw, Unwind, WithHandler}
-use Rattle.front_profile.specs.declared.elaboration.DefinedAs.TheVariants.{Function}
+use Rattle.front_profile.specs.declared.elaboration.DefinedAs.TheVariants.{Function, Macro}
 use Rattle.front_profile.specs.declared.elaboration.Elaboration.TheVariants.{CallOfValue}
 use Rattle.front_profile.specs.declared.special.Special.{Special}
 use Rattle.front_profile.specs.declared.special.Special.TheVariants as name
@@ -57,8 +57,8 @@ starts_special names s name.WithFunctions a p ds = starts_with_functions s (func
 starts_special names s name.Defglobal a p ds = starts_global s false a p ds
 starts_special names s name.Defconstant a p ds = starts_global s true a p ds
 starts_special names s name.Defdynamic a p ds = starts_defdynamic s a p ds
-starts_special names s name.Defun a p ds = starts_defun s (first_reserved names ds) a p ds
-starts_special names s name.Defmacro a p ds = tt
+starts_special names s name.Defun a p ds = starts_defun s Function (first_reserved names ds) a p ds
+starts_special names s name.Defmacro a p ds = starts_defun s Macro (first_reserved names ds) a p ds
 starts_special names s name.Defclass a p ds = starts_defclass names s a p ds
 starts_special names s name.Defgeneric a p ds = starts_defgeneric names s a p ds
 starts_special names s name.Defmethod a p ds = starts_defmethod names s a p ds

@@ -48,4 +48,3 @@ pub mod Once
 pub mod Below
 pub mod Suiting
 pub mod Expanders
-pub mod Macros

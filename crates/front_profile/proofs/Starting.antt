@@ -13,8 +13,7 @@ use Rattle.front_profile.specs.declared.elaboration.ElaboratedPart.{ElaboratedPa
 use Rattle.front_profile.specs.declared.elaboration.One.{One}
 use Rattle.front_profile.specs.declared.elaboration.One.TheVariants.{DefineGlobal, DefineDynamic}
 use Rattle.front_profile.specs.declared.elaboration.Elaboration.{Elaboration}
-use Rattle.front_profile.specs.declared.elaboration.Elaboration.TheVariants.{Ready, OfOne, OfFunctionNamed, OfMethods, OfClass}
-use Rattle.front_profile.specs.declared.elaboration.DefinedAs.TheVariants.{Macro}
+use Rattle.front_profile.specs.declared.elaboration.Elaboration.TheVariants.{Ready, OfOne, OfMethods, OfClass}
 use Rattle.front_profile.specs.Nodes.{StaticContext, Part, function, Node, offends, unnamed, steps, calls, whole}
 use Rattle.front_profile.specs.Shapes.{Pair}
 use Rattle.front_profile.specs.RowWords.{deeper, with_site_if, within_depth, made_of, made_at_once, unsited, with_literal, literal_node, each_bound}
@@ -149,23 +148,16 @@ none_name false d s = none_defined s
 abbrev pub MakesNothing : Elaboration → Type 0
 MakesNothing k = (rs : List ElaboratedPart) (u : Tables) → NothingDefined u (finish k rs u)
 
--- what is made is no macro
-abbrev pub MakesNoMacro : Elaboration → Type 0
-MakesNoMacro (OfFunctionNamed Macro name n rest of_file l) = ⊥
-MakesNoMacro other = Unit {0}
-
 -- what is made suits the tables behind its parts, and leaves known tables: at once, or where its parts are functions and the tables that it
 -- was judged by are known
 
 abbrev pub IsSimple : Elaboration → Type 0
-IsSimple (OfFunctionNamed Macro name n rest of_file l) = ⊥
 IsSimple (OfMethods t hs p of_file l) = ⊥
 IsSimple (OfClass c p of_file l) = ⊥
 IsSimple other = Unit {0}
 
 pub record JoinsSuited (s t : Tables) (xs : List Part) (k : Elaboration) : Type 0 where
   pub functions : AllFunctions xs
-  pub macros : MakesNoMacro k
   pub suits : KeepsNames → KnownTables s → (u : Tables) (rs : List ElaboratedPart) → SameNames t u → AllRight xs → Suits k u × KnownTables (finish k rs u)
 
 abbrev pub Suited : Tables → Tables → List Part → Elaboration → Type 0

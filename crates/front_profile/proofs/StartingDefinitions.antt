@@ -9,7 +9,7 @@ use Rattle.lang_derived.specs.Asked.{list_items}
 use Rattle.lang_derived.specs.Derived.{unfit}
 use Rattle.front_profile.specs.declared.parameters.Parameters.{Parameters}
 use Rattle.front_profile.specs.declared.tables.Tables.{Tables}
-use Rattle.front_profile.specs.declared.elaboration.DefinedAs.TheVariants.{Function}
+use Rattle.front_profile.specs.declared.elaboration.DefinedAs.{DefinedAs}
 use Rattle.front_profile.specs.declared.elaboration.Elaboration.{Elaboration}
 use Rattle.front_profile.specs.declared.elaboration.ElaboratedPart.{ElaboratedPart}
 use Rattle.lang_meaning.specs.declared.program.GenericRow.{GenericRow}
@@ -37,7 +37,7 @@ use Rattle.front_profile.proofs.GenericRows.{method_functions, each_functions, n
 use Rattle.front_profile.proofs.ClassRows.{class_functions, Judged, judged}
 use Rattle.front_profile.proofs.SuitedMethods.{new_suits, there_suits}
 use Rattle.front_profile.proofs.SuitedClasses.{class_suits}
-use Rattle.front_profile.proofs.Starting.{grows_literal, grows_numbers, grows_name, names_then, NodeBegins, none_defined, none_name, MakesNoMacro, Suited, StartsWhole, Starts, starts_if, starts_within}
+use Rattle.front_profile.proofs.Starting.{grows_literal, grows_numbers, grows_name, names_then, NodeBegins, none_defined, none_name, Suited, StartsWhole, Starts, starts_if, starts_within}
 use Rattle.front_profile.proofs.StartingForms.{starts_one}
 
 -- forms that define
@@ -60,14 +60,14 @@ starts_top : (s : Tables) (top : Bool) (o i : StaticContext) (t : Tables) (xs : 
 starts_top s top o i t xs k g n j e = record { grows = g; names = n.names; suited = j; low = λ l. absurd (cc (e, l)) }
 
 -- a definition, whose name is a literal in a file
-starts_joining : (s : Tables) (a : StaticContext) (d : Item) (xs : List Part) (k : Elaboration) → AllFunctions xs → MakesNoMacro k
+starts_joining : (s : Tables) (a : StaticContext) (d : Item) (xs : List Part) (k : Elaboration) → AllFunctions xs
     → (KeepsNames → KnownTables s → (u : Tables) (rs : List ElaboratedPart) → SameNames s u → AllRight xs → Suits k u × KnownTables (finish k rs u)) → a.spot.top ≡ true
     → StartsWhole s a.spot.top a a (with_name a.spot.sited d s) xs k
-starts_joining s a d xs k f none h e =
+starts_joining s a d xs k f h e =
     let t : Tables = with_name a.spot.sited d s in
     let n : NothingDefined s t = none_name a.spot.sited d s in
     starts_top s a.spot.top a a t xs k (grows_name a.spot.sited d s) n
-    (inr (record { functions = f; macros = none; suits = λ keep w u rs same r. h keep w u rs (names_then s t u n.names same) r })) e
+    (inr (record { functions = f; suits = λ keep w u rs same r. h keep w u rs (names_then s t u n.names same) r })) e
 
 starts_global_as : (s : Tables) (constant : Bool) (a : StaticContext) (p : Place) (n : Option Name) (x : Item) → Starts s a.spot.top (global_as constant a s p n x)
 starts_global_as s constant a p None x = tt
@@ -91,20 +91,20 @@ starts_defdynamic s a p [] = tt
 starts_defdynamic s a p (d ∷ []) = tt
 starts_defdynamic s a p (d ∷ x ∷ e ∷ ds) = tt
 
-starts_defun_with : (s : Tables) (a : StaticContext) (n : Name) (d l : Item) (fs : List Item) (ps : Option Parameters) → a.spot.top ≡ true → Starts s a.spot.top (defun_with Function a s n d l fs ps)
-starts_defun_with s a n d l fs None e = tt
-starts_defun_with s a n d l fs (Some ps) e = starts_top s a.spot.top _ _ _ _ _ (grows_name a.spot.sited d s) (none_name a.spot.sited d s) (inl tt) e
+starts_defun_with : (s : Tables) (k : DefinedAs) (a : StaticContext) (n : Name) (d l : Item) (fs : List Item) (ps : Option Parameters) → a.spot.top ≡ true → Starts s a.spot.top (defun_with k a s n d l fs ps)
+starts_defun_with s k a n d l fs None e = tt
+starts_defun_with s k a n d l fs (Some ps) e = starts_top s a.spot.top _ _ _ _ _ (grows_name a.spot.sited d s) (none_name a.spot.sited d s) (inl tt) e
 
-starts_defun_as : (s : Tables) (kept : Bool) (a : StaticContext) (p : Place) (d l : Item) (fs : List Item) (n : Option Name) → Starts s a.spot.top (defun_as Function kept a s p d l fs n)
-starts_defun_as s kept a p d l fs None = tt
-starts_defun_as s kept a p d l fs (Some n) =
+starts_defun_as : (s : Tables) (k : DefinedAs) (kept : Bool) (a : StaticContext) (p : Place) (d l : Item) (fs : List Item) (n : Option Name) → Starts s a.spot.top (defun_as k kept a s p d l fs n)
+starts_defun_as s k kept a p d l fs None = tt
+starts_defun_as s k kept a p d l fs (Some n) =
     starts_defining s p a.spot.top (is_taken a.spot.sited s n) (is_reserved kept a s n) _
-    (λ e taken reserved. starts_within s 1 a p _ (starts_defun_with s a n d l fs (parameters_in s.words l) e))
+    (λ e taken reserved. starts_within s 1 a p _ (starts_defun_with s k a n d l fs (parameters_in s.words l) e))
 
-pub starts_defun : (s : Tables) (kept : Bool) (a : StaticContext) (p : Place) (ds : List Item) → Starts s a.spot.top (defun_row Function kept a s p ds)
-starts_defun s kept a p [] = tt
-starts_defun s kept a p (d ∷ []) = tt
-starts_defun s kept a p (d ∷ l ∷ fs) = starts_defun_as s kept a p d l fs (named (symbol_of d))
+pub starts_defun : (s : Tables) (k : DefinedAs) (kept : Bool) (a : StaticContext) (p : Place) (ds : List Item) → Starts s a.spot.top (defun_row k kept a s p ds)
+starts_defun s k kept a p [] = tt
+starts_defun s k kept a p (d ∷ []) = tt
+starts_defun s k kept a p (d ∷ l ∷ fs) = starts_defun_as s k kept a p d l fs (named (symbol_of d))
 
 -- classes and generic functions
 
@@ -112,7 +112,7 @@ starts_generic_with : (s : Tables) (a : StaticContext) (d : Item) (n : Name) (l 
     → all_fit s (generic_row n ps) ms ≡ true → a.spot.top ≡ true → Starts s a.spot.top (generic_with a s d n l ms ps)
 starts_generic_with s a d n l ms None fresh f e = tt
 starts_generic_with s a d n l ms (Some ps) fresh f e =
-    starts_joining s a (name_datum d n) (each_method s n ms) _ (each_functions s n ms) tt
+    starts_joining s a (name_datum d n) (each_method s n ms) _ (each_functions s n ms)
     (λ keep w u rs same r. new_suits s n ps ms (length s.procedures) a.spot.sited u w same fresh f r) e
 
 starts_generic_as : (names : List (List ℕ)) (s : Tables) (a : StaticContext) (p : Place) (d l : Item) (os : List GenericOption) (n : GivenName) → Starts s a.spot.top (generic_named_as names a s p d l os n)
@@ -139,7 +139,7 @@ starts_method_for s a p d n m None h e = tt
 starts_method_for s a p d n m (Some g) h e =
     let there : (x : GenericRow) × (slice_get s.generics g ≡ Some x) = named_there s.generics n g h in
     starts_test s a.spot.top (fits s (slice_get s.generics g) m) _ _ (λ f.
-    starts_joining s a (name_datum d n) (method_parts s n m) _ (method_functions s n m) tt
+    starts_joining s a (name_datum d n) (method_parts s n m) _ (method_functions s n m)
     (λ keep w u rs same r. there_suits s n g m there.0 (length s.procedures) a.spot.sited u w same there.1 (ap (λ o. fits s o m) (sym there.1) ∙ f) r) e) (λ f. tt)
 
 starts_at_top : (s : Tables) (top : Bool) (p : Place) (x : Node) → (top ≡ true → Starts s top x) → Starts s top (if not top then offends p NotTopLevel else x)
@@ -165,7 +165,7 @@ starts_defmethod names s a p (d ∷ ds) = starts_method_as names s a p d (method
 starts_class_made : (s : Tables) (a : StaticContext) (d : Item) (n : Name) (cs : List WrittenSuper) (xs : List WrittenSlot) (os : List ClassOption) → (KnownTables s → Judged s n cs xs)
     → a.spot.top ≡ true → Starts s a.spot.top (class_made a s d n cs xs os)
 starts_class_made s a d n cs xs os j e =
-    starts_joining s a d (class_parts s cs xs) _ (class_functions s cs xs) tt
+    starts_joining s a d (class_parts s cs xs) _ (class_functions s cs xs)
     (λ keep w u rs same r. class_suits keep s n cs xs (is_abstract os) (length s.procedures) a.spot.sited u w same (j w) r) e
 
 starts_new_class : (names : List (List ℕ)) (s : Tables) (a : StaticContext) (p : Place) (d : Item) (n : Name) (cs : List WrittenSuper) (xs : List WrittenSlot) (os : List ClassOption)

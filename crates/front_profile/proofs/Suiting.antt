@@ -90,7 +90,7 @@ one_known other u w = w
 simple_known : (k : Elaboration) → IsSimple k → (rs : List ElaboratedPart) (u : Tables) → KnownTables u → KnownTables (finish k rs u)
 simple_known (OfOne k) h rs u w = one_known k u w
 simple_known (OfFunctionNamed Function name n rest of_file l) h rs u w = known_function u _ w
-simple_known (OfFunctionNamed Macro name n rest of_file l) h rs u w = absurd h
+simple_known (OfFunctionNamed Macro name n rest of_file l) h rs u w = w
 simple_known (OfMethods t hs p of_file l) h rs u w = absurd h
 simple_known (OfClass c p of_file l) h rs u w = absurd h
 simple_known other h rs u w = w

@@ -1,20 +1,20 @@
 -- **What a macro's call expands to, or why it is refused** (ISO/IEC 13816:2007, 16). Its expander runs as a program of its own, which has no
 -- input, and the value stands for a datum. How many words and instructions it has are this profile's own: its code may do with fewer words and
 -- instructions than those by which its meaning bounds it, so what is said of them here says when a call may be refused for them.
-use Rattle.std.specs.Prelude.{◌≡◌, ◌<◌, ◌≤◌, ℕ, ◌+◌, ◌*◌, List, [], length}
+use Rattle.std.specs.Prelude.{◌≡◌, ◌<◌, ◌≤◌, ℕ, ◌+◌, List, [], length}
 use Rattle.base.specs.declared.place.Place.{Place}
 use Rattle.base.specs.declared.reason.Reason.{Reason}
 use Rattle.base.specs.declared.reason.Reason.TheVariants.{ExpanderUnhandled, ExpanderPrinted, ExpanderArena, ExpanderBudget}
 use Rattle.base.specs.Data.{Item, place_of}
 use Rattle.base.specs.Names.{Extends}
 use Rattle.lang_meaning.specs.declared.program.ProgramRows.{ProgramRows}
-use Rattle.lang_meaning.specs.Cells.{program_cells}
 use Rattle.lang_meaning.specs.Counts.{bound}
 use Rattle.lang_meaning.specs.Meaning.{Meant, meaning, End, ended_value, ended_unhandled, ended_full, ended_more}
 use Rattle.lang_meaning.specs.ProgramCounts.{program_nodes}
 use Rattle.lang_meaning.specs.State.{Limit, words, unlimited}
 use Rattle.lang_meaning.specs.Values.{Value}
 use Rattle.lang_reached.specs.Remaining.{KeepsReached}
+use Rattle.lang_reached.specs.Sizes.{most_words}
 use Rattle.lang_taken.specs.Taken.{DatumOf}
 use Rattle.lang_taken.specs.Failing.{DatumFails}
 use Rattle.front_profile.specs.declared.tables.Tables.{Tables}
@@ -32,15 +32,13 @@ expander_words = 262144
 abbrev pub expander_instructions : ℕ
 expander_instructions = 20000000
 
+-- and what the start of a run takes: its frame of two words, and the reserve of a main form
+abbrev pub run_start_words : ℕ
+run_start_words = 57
+
 -- the words that the image of a program, of which nothing is left out, and the start of its run take at most
 abbrev pub most_image_words : ProgramRows → ℕ
-most_image_words program =
-    167 * program_nodes program
-    + 299 * length program.main
-    + 2 * length program.functions
-    + 77 * length program.classes
-    + 4 * program_cells program
-    + 40000
+most_image_words program = most_words program + run_start_words
 
 -- what the expander of a call means, with so many levels and within that limit of words
 abbrev pub expander_means : List (List ℕ) → Tables → (macro : ℕ) → Item → (levels : ℕ) → Limit → Meant

@@ -7,7 +7,7 @@ use Rattle.base.specs.declared.datum.Name.{Name}
 use Rattle.base.specs.declared.datum.Symbol.{Symbol}
 use Rattle.base.specs.declared.datum.Symbol.TheVariants.{Named, Fresh}
 use Rattle.base.specs.declared.reason.Reason.{Reason}
-use Rattle.base.specs.declared.reason.Reason.TheVariants.{NotAForm, LeftOut, NotBuilt, BadShape, UnknownClass, TooManyExpansions, ExpansionDepth}
+use Rattle.base.specs.declared.reason.Reason.TheVariants.{NotAForm, LeftOut, BadShape, UnknownClass, TooManyExpansions, ExpansionDepth}
 use Rattle.base.specs.declared.reason.Refusal.{Refusal}
 use Rattle.base.specs.Data.{Item, item, integer, character, symbol, string, vector, nil, list, items_list, Tail, no_tail, dotted, place_of}
 use Rattle.base.specs.DataNames.{symbol_text, text_of}
@@ -23,7 +23,7 @@ use Rattle.front_profile.specs.Words.{special_named, is_left_out, is_kept, is_re
 use Rattle.front_profile.specs.Names.{function_of}
 use Rattle.front_profile.specs.declared.elaboration.Leaf.TheVariants.{NextMethod, HasNext}
 use Rattle.lang_meaning.specs.declared.kinds.OverTwo.TheVariants.{Apply, While, Catch, Throw, Unwind, WithHandler}
-use Rattle.front_profile.specs.declared.elaboration.DefinedAs.TheVariants.{Function}
+use Rattle.front_profile.specs.declared.elaboration.DefinedAs.TheVariants.{Function, Macro}
 use Rattle.front_profile.specs.declared.elaboration.Elaboration.TheVariants.{CallOfValue}
 use Rattle.front_profile.specs.Nodes.{StaticContext, Node, offends, steps, calls}
 use Rattle.front_profile.specs.Shapes.{symbol_of}
@@ -95,7 +95,7 @@ special_row names name.Defglobal a s p ds = global_row false a s p ds
 special_row names name.Defconstant a s p ds = global_row true a s p ds
 special_row names name.Defdynamic a s p ds = defdynamic_row a s p ds
 special_row names name.Defun a s p ds = defun_row Function (first_reserved names ds) a s p ds
-special_row names name.Defmacro a s p ds = offends p NotBuilt
+special_row names name.Defmacro a s p ds = defun_row Macro (first_reserved names ds) a s p ds
 special_row names name.Defclass a s p ds = defclass_row names a s p ds
 special_row names name.Defgeneric a s p ds = defgeneric_row names a s p ds
 special_row names name.Defmethod a s p ds = defmethod_row names a s p ds

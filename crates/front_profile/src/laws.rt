@@ -11,6 +11,7 @@ ghost use Rattle.front_profile.specs.declared.tables.Tables.{Tables};
 ghost use Rattle.front_profile.specs.Nodes.{StaticContext, Part, Standing, Verdict, stands, NodeStays};
 ghost use Rattle.front_profile.specs.Elaborations.{made_form, finished};
 ghost use Rattle.front_profile.specs.Rows.{node, plain_node};
+ghost use Rattle.front_profile.specs.Marks.{TablesGrow};
 ghost use Rattle.front_profile.specs.Exact.{IsExact, OneExpansion};
 ghost use Rattle.front_profile.specs.Judged.{Elaborates};
 ghost use Rattle.front_profile.specs.Sound.{weight, SoundNode};
@@ -59,8 +60,9 @@ pub fn law_turns()
         PartsStop names o i s xs stop → WholeStops names o i s xs m stop }
 {}
 
-/// A form adds no macro, since no form defines one yet: the row of the one that is to do so is `NotBuilt`.
-pub fn law_macros()
+/// Judging takes nothing away: behind a form all that was defined in front of it is still there, in front of what the
+/// form adds.
+pub fn law_growth()
     ensures { (names : List (List ℕ)) (a : StaticContext) (s : Tables) (d : Item) (m : Standing) →
-        Elaborates names (node names a s d) (stands m) → m.tables.macros ≡ s.macros }
+        Elaborates names (node names a s d) (stands m) → TablesGrow s m.tables }
 {}

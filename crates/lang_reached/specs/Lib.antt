@@ -3,3 +3,4 @@ pub mod Mentioned
 pub mod Remaining
 pub mod Laws
 pub mod Search
+pub mod Sizes

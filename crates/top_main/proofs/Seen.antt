@@ -10,7 +10,7 @@ use Rattle.back_build.specs.Means.{HaltsWith, EndsUnhandled, EndsFull, IsBuilt}
 use Rattle.back_build.specs.Reached.{OfReached, IsSized}
 use Rattle.back_image_sizes.specs.Sizes.{program_image_words}
 use Rattle.top_main.specs.Images.{AreBytes, Halts, Signals, HasNoRoom, Does, IsImageOf}
-use Rattle.top_main.specs.Sizes.{most_words}
+use Rattle.lang_reached.specs.Sizes.{most_words}
 use Rattle.top_main.proofs.WordOf.{word_is}
 
 -- the ends of its runs

@@ -20,6 +20,8 @@ use Rattle.front_scope.specs.Scopes.{IsElaborated, IsTaken, IsTooLarge, HasManyC
 use Rattle.front_files.specs.declared.mode.Mode.{Mode}
 use Rattle.front_files.specs.Shown.{first_text, head_text, not_shown, is_among, stays, IsPrinting, IsForm, runs, not_last, last_stays, last_shown}
 use Rattle.front_files.specs.Verdicts.{FormTaken, FormRefused, Judgement, Judges, at_end, form_taken, form_refused, text_stops}
+use Rattle.front_files.specs.WithoutMacros.{TextLeaves}
+use Rattle.front_files.specs.bridge.Leaving.{JudgesLeaving}
 
 -- the form that is judged
 
@@ -113,3 +115,26 @@ judges_later old new origin mode s text p j e (form_refused s2 text2 p2 d after 
     form_refused s2 text2 p2 d after x (next_later old new text2 p2 d after e r)
     (form_refused_later old new origin mode s2 d after x e (next_good old text2 p2 d after r) f)
 judges_later old new origin mode s text p j e (text_stops s2 text2 p2 r x) = text_stops s2 text2 p2 r x
+
+-- what tables are left stays, too
+
+pub leaving_later : (Such : Tables → Type 0) (old new : List (List ℕ)) (origin : Origin) (mode : Mode) (s : Tables) (text : List ℕ) (p : Place) (j : Judgement) → Extends old new →
+    (g : Judges old origin mode s text p j) → TextLeaves Such old origin mode s text p j g → JudgesLeaving Such new origin mode s text p j
+unfolding next_later
+leaving_later Such old new origin mode s text p j e (at_end s2 text2 p2 g) l = record { judges = at_end s2 text2 p2 g; leaves = l }
+leaving_later Such old new origin mode s text p j e (form_taken s2 text2 p2 d after t j2 r f rest) l =
+    let more = leaving_later Such old new origin mode t after _ j2 e rest l in
+    record {
+      judges =
+          form_taken s2 text2 p2 d after t j2 (next_later old new text2 p2 d after e r)
+          (form_taken_later old new origin mode s2 d after t e (next_good old text2 p2 d after r) f)
+          more.judges;
+      leaves = more.leaves;
+    }
+leaving_later Such old new origin mode s text p j e (form_refused s2 text2 p2 d after x r f) l = record {
+  judges =
+      form_refused s2 text2 p2 d after x (next_later old new text2 p2 d after e r)
+      (form_refused_later old new origin mode s2 d after x e (next_good old text2 p2 d after r) f);
+  leaves = l;
+}
+leaving_later Such old new origin mode s text p j e (text_stops s2 text2 p2 r x) l = record { judges = text_stops s2 text2 p2 r x; leaves = l }

@@ -1,4 +1,5 @@
--- Under one table of names, a file has at most one verdict whose end counts, where that is so of each form behind tables of a sort that forms keep.
+-- Under one table of names, a file has at most one verdict whose end counts, where that is so of each form behind tables of a sort, and one of the
+-- verdicts leaves such tables: the tables in front of each form that is taken are of the sort where those behind it are.
 use Rattle.std.specs.Prelude.{◌≡◌, ℕ, ◌<◌, ◌≤◌, List, [], refl}
 use Rattle.std.proofs.Common.{ap, sym, subst, ◌∙◌, arith, ⊎_elim}
 use Rattle.base.specs.declared.origin.Origin.{Origin}
@@ -19,13 +20,16 @@ use Rattle.front_profile.specs.Promises.{FormComes}
 use Rattle.front_reader.specs.Characters.{place_behind}
 use Rattle.front_reader.specs.Gaps.{Gap}
 use Rattle.front_reader.specs.Reads.{ReadsNext}
+use Rattle.front_reader.specs.Readers.{first_place}
 use Rattle.front_reader.specs.Stops.{Stops, StopsFirst}
-use Rattle.front_scope.specs.Scopes.{AreInitialTables, top, with_main, rows_of, nodes_of, most_nodes, cells_of, most_cells, IsElaborated, IsTaken, IsTooLarge, HasManyCells, IsRefusedWhole, IsFormStopped}
+use Rattle.front_scope.specs.Scopes.{top, with_main, rows_of, nodes_of, most_nodes, cells_of, most_cells, IsElaborated, IsTaken, IsTooLarge, HasManyCells, IsRefusedWhole, IsFormStopped}
 use Rattle.front_files.specs.declared.mode.Mode.{Mode}
 use Rattle.front_files.specs.declared.mode.Mode.TheVariants.{Run}
 use Rattle.front_files.specs.Shown.{printing_at, IsPrinting, IsForm, runs, not_last, last_stays, last_shown}
 use Rattle.front_files.specs.Verdicts.{JudgesText, IsOfFile, its_length, in_it, FormTaken, FormRefused, Judgement, all_taken, one_refused, behind_next, Judges, at_end, form_taken, form_refused, text_stops, FileVerdict, accepted, refused, BehindPrelude, Verdict, source_too_long, prelude_refused, file_refused, file_accepted}
+use Rattle.front_files.specs.WithoutMacros.{TextLeaves, PreludeLeaves, VerdictLeaves}
 use Rattle.front_files.specs.bridge.First.{one_first, same_name}
+use Rattle.front_files.specs.bridge.Leaving.{StandBefore, front_such, text_leaves}
 
 -- which ends count of what a form comes to, a text and a file
 
@@ -44,8 +48,7 @@ VerdictCounts Counts (refused r) = Counts r.reason
 -- what is known of texts, and of forms behind tables of that sort
 pub record Once (names : List (List ℕ)) (Sure : Tables → Type 0) (Counts : Reason → Type 0) : Type 0 where
   pub table : IsTable names
-  pub first : (s : Tables) → AreInitialTables names s → Sure s
-  pub kept : (origin : Origin) (s : Tables) (d : Item) (t : Tables) → Sure s → IsElaborated names origin (opened s) d t → Sure t
+  pub before : StandBefore Sure names
   pub form : (a : StaticContext) (s : Tables) (d : Item) (v w : Come) → Sure s → ComeCounts Counts v → ComeCounts Counts w
       → Elaborates names (node names a (opened s) d) v → Elaborates names (node names a (opened s) d) w → v ≡ w
   pub next : (text : List ℕ) (p : Place) (d e : Item) (after left : List ℕ) (x : ReadsNext names text p d after) (y : ReadsNext names text p e left) →
@@ -217,64 +220,66 @@ module _ (Sure : Tables → Type 0) (Counts : Reason → Type 0) where
 
   -- ---- a text
 
-  same_judgement : (names : List (List ℕ)) (origin : Origin) (mode : Mode) (s : Tables) (text : List ℕ) (p : Place) (j k : Judgement) → Once names Sure Counts → Sure s → JudgementCounts Counts j →
+  same_judgement : (names : List (List ℕ)) (origin : Origin) (mode : Mode) (s : Tables) (text : List ℕ) (p : Place) (j k : Judgement) → Once names Sure Counts → JudgementCounts Counts j →
       JudgementCounts Counts k →
-      Judges names origin mode s text p j → Judges names origin mode s text p k → j ≡ k
-  same_judgement names origin mode s text p j k once sure a b (at_end s1 x1 p1 g) (at_end s2 x2 p2 h) = refl
-  same_judgement names origin mode s text p j k once sure a b (at_end s1 x1 p1 g) (form_taken s2 x2 p2 d after t k2 r f rest) = absurd (once.end_or_next x1 p1 d after g r)
-  same_judgement names origin mode s text p j k once sure a b (at_end s1 x1 p1 g) (form_refused s2 x2 p2 d after x r f) = absurd (once.end_or_next x1 p1 d after g r)
-  same_judgement names origin mode s text p j k once sure a b (at_end s1 x1 p1 g) (text_stops s2 x2 p2 x h) = absurd (once.end_or_stop x1 p1 x.place x.reason g h)
-  same_judgement names origin mode s text p j k once sure a b (form_taken s1 x1 p1 d after t j1 r f rest) (at_end s2 x2 p2 g) = absurd (once.end_or_next x1 p1 d after g r)
-  same_judgement names origin mode s text p j k once sure a b (form_taken s1 x1 p1 d after t j1 r f rest) (form_taken s2 x2 p2 e left u k2 q g more) =
+      (g : Judges names origin mode s text p j) → Judges names origin mode s text p k → TextLeaves Sure names origin mode s text p j g → j ≡ k
+  same_judgement names origin mode s text p j k once a b (at_end s1 x1 p1 g) (at_end s2 x2 p2 h) l = refl
+  same_judgement names origin mode s text p j k once a b (at_end s1 x1 p1 g) (form_taken s2 x2 p2 d after t k2 r f rest) l = absurd (once.end_or_next x1 p1 d after g r)
+  same_judgement names origin mode s text p j k once a b (at_end s1 x1 p1 g) (form_refused s2 x2 p2 d after x r f) l = absurd (once.end_or_next x1 p1 d after g r)
+  same_judgement names origin mode s text p j k once a b (at_end s1 x1 p1 g) (text_stops s2 x2 p2 x h) l = absurd (once.end_or_stop x1 p1 x.place x.reason g h)
+  same_judgement names origin mode s text p j k once a b (form_taken s1 x1 p1 d after t j1 r f rest) (at_end s2 x2 p2 g) l = absurd (once.end_or_next x1 p1 d after g r)
+  same_judgement names origin mode s text p j k once a b (form_taken s1 x1 p1 d after t j1 r f rest) (form_taken s2 x2 p2 e left u k2 q g more) l =
       let same = once.next x1 p1 d e after left r q in
+      let sure : Sure s1 = once.before origin s1 f.form t (front_such Sure names once.before origin mode t after (behind_next names x1 p1 d after r) j1 rest l) f.taken.given in
       let tables : t ≡ u = same_taken names origin mode s1 d after t u once sure f (taken_there names origin mode s1 d e after left u same.0 same.1 g) in
-      same_judgement names origin mode t after (behind_next names x1 p1 d after r) j1 k2 once (once.kept origin s1 f.form t sure f.taken.given) a b rest
+      same_judgement names origin mode t after (behind_next names x1 p1 d after r) j1 k2 once a b rest
       (judges_there names origin mode t u after left (behind_next names x1 p1 d after r) (behind_next names x1 p1 e left q) k2 tables same.1 same.2 more)
-  same_judgement names origin mode s text p j k once sure a b (form_taken s1 x1 p1 d after t j1 r f rest) (form_refused s2 x2 p2 e left x q g) =
+      l
+  same_judgement names origin mode s text p j k once a b (form_taken s1 x1 p1 d after t j1 r f rest) (form_refused s2 x2 p2 e left x q g) l =
       let same = once.next x1 p1 d e after left r q in
+      let sure : Sure s1 = once.before origin s1 f.form t (front_such Sure names once.before origin mode t after (behind_next names x1 p1 d after r) j1 rest l) f.taken.given in
       absurd (form_taken_or_refused names origin mode s1 d after t x once sure b f (refused_there names origin mode s1 d e after left x same.0 same.1 g))
-  same_judgement names origin mode s text p j k once sure a b (form_taken s1 x1 p1 d after t j1 r f rest) (text_stops s2 x2 p2 x h) =
+  same_judgement names origin mode s text p j k once a b (form_taken s1 x1 p1 d after t j1 r f rest) (text_stops s2 x2 p2 x h) l =
       absurd (once.next_or_stop x1 p1 d after x.place x.reason r h)
-  same_judgement names origin mode s text p j k once sure a b (form_refused s1 x1 p1 d after x r f) (at_end s2 x2 p2 g) = absurd (once.end_or_next x1 p1 d after g r)
-  same_judgement names origin mode s text p j k once sure a b (form_refused s1 x1 p1 d after x r f) (form_taken s2 x2 p2 e left u k2 q g more) =
+  same_judgement names origin mode s text p j k once a b (form_refused s1 x1 p1 d after x r f) (at_end s2 x2 p2 g) l = absurd (once.end_or_next x1 p1 d after g r)
+  same_judgement names origin mode s text p j k once a b (form_refused s1 x1 p1 d after x r f) (form_taken s2 x2 p2 e left u k2 q g more) l =
       let same = once.next x1 p1 d e after left r q in
-      absurd (form_taken_or_refused names origin mode s1 d after u x once sure a (taken_there names origin mode s1 d e after left u same.0 same.1 g) f)
-  same_judgement names origin mode s text p j k once sure a b (form_refused s1 x1 p1 d after x r f) (form_refused s2 x2 p2 e left y q g) =
+      absurd (form_taken_or_refused names origin mode s1 d after u x once l a (taken_there names origin mode s1 d e after left u same.0 same.1 g) f)
+  same_judgement names origin mode s text p j k once a b (form_refused s1 x1 p1 d after x r f) (form_refused s2 x2 p2 e left y q g) l =
       let same = once.next x1 p1 d e after left r q in
-      ap one_refused (same_form_refusal names origin mode s1 d after x y once sure a b f (refused_there names origin mode s1 d e after left y same.0 same.1 g))
-  same_judgement names origin mode s text p j k once sure a b (form_refused s1 x1 p1 d after x r f) (text_stops s2 x2 p2 y h) =
+      ap one_refused (same_form_refusal names origin mode s1 d after x y once l a b f (refused_there names origin mode s1 d e after left y same.0 same.1 g))
+  same_judgement names origin mode s text p j k once a b (form_refused s1 x1 p1 d after x r f) (text_stops s2 x2 p2 y h) l =
       absurd (once.next_or_stop x1 p1 d after y.place y.reason r h)
-  same_judgement names origin mode s text p j k once sure a b (text_stops s1 x1 p1 x h) (at_end s2 x2 p2 g) = absurd (once.end_or_stop x1 p1 x.place x.reason g h)
-  same_judgement names origin mode s text p j k once sure a b (text_stops s1 x1 p1 x h) (form_taken s2 x2 p2 d after t k2 r f rest) =
+  same_judgement names origin mode s text p j k once a b (text_stops s1 x1 p1 x h) (at_end s2 x2 p2 g) l = absurd (once.end_or_stop x1 p1 x.place x.reason g h)
+  same_judgement names origin mode s text p j k once a b (text_stops s1 x1 p1 x h) (form_taken s2 x2 p2 d after t k2 r f rest) l =
       absurd (once.next_or_stop x1 p1 d after x.place x.reason r h)
-  same_judgement names origin mode s text p j k once sure a b (text_stops s1 x1 p1 x h) (form_refused s2 x2 p2 d after y r f) =
+  same_judgement names origin mode s text p j k once a b (text_stops s1 x1 p1 x h) (form_refused s2 x2 p2 d after y r f) l =
       absurd (once.next_or_stop x1 p1 d after x.place x.reason r h)
-  same_judgement names origin mode s text p j k once sure a b (text_stops s1 x1 p1 x h) (text_stops s2 x2 p2 y i) =
+  same_judgement names origin mode s text p j k once a b (text_stops s1 x1 p1 x h) (text_stops s2 x2 p2 y i) l =
       let same = once.stop p1 x1 x.place y.place x.reason y.reason h.stops i.stops in
       ap one_refused (same_refusal x y same.0 same.1)
 
-  abbrev JudgedSure : Judgement → Type 0
-  JudgedSure (all_taken t) = Sure t
-  JudgedSure (one_refused r) = Unit {0}
-
-  judged_sure : (names : List (List ℕ)) (origin : Origin) (mode : Mode) (s : Tables) (text : List ℕ) (p : Place) (j : Judgement) → Once names Sure Counts → Sure s →
-      Judges names origin mode s text p j → JudgedSure j
-  judged_sure names origin mode s text p j once sure (at_end s1 x1 p1 g) = sure
-  judged_sure names origin mode s text p j once sure (form_taken s1 x1 p1 d after t j1 r f rest) =
-      judged_sure names origin mode t after (behind_next names x1 p1 d after r) j1 once (once.kept origin s1 f.form t sure f.taken.given) rest
-  judged_sure names origin mode s text p j once sure (form_refused s1 x1 p1 d after x r f) = tt
-  judged_sure names origin mode s text p j once sure (text_stops s1 x1 p1 x h) = tt
-
   -- ---- a file
 
-  same_prelude : (names : List (List ℕ)) (prelude : List ℕ) (j k : Judgement) → Once names Sure Counts → JudgementCounts Counts j → JudgementCounts Counts k → BehindPrelude names prelude j → BehindPrelude names prelude k → j ≡ k
-  same_prelude names prelude j k once x y a b =
+  same_prelude : (names : List (List ℕ)) (prelude : List ℕ) (j k : Judgement) → Once names Sure Counts → JudgementCounts Counts j → JudgementCounts Counts k → (a : BehindPrelude names prelude j) →
+      BehindPrelude names prelude k → PreludeLeaves Sure names prelude j a → j ≡ k
+  same_prelude names prelude j k once x y a b l =
       let first : a.first ≡ b.first = one_first names a.first b.first once.table a.is_first b.is_first in
-      same_judgement names _ _ a.first prelude _ j k once (once.first a.first a.is_first) x y a.judges
-      (judges_there names _ _ a.first b.first prelude prelude _ _ k first refl refl b.judges)
+      same_judgement names _ _ a.first prelude _ j k once x y a.judges
+      (judges_there names _ _ a.first b.first prelude prelude _ _ k first refl refl b.judges) l
 
-  behind_sure : (names : List (List ℕ)) (prelude : List ℕ) (t : Tables) → Once names Sure Counts → BehindPrelude names prelude (all_taken t) → Sure t
-  behind_sure names prelude t once a = judged_sure names _ _ a.first prelude _ (all_taken t) once (once.first a.first a.is_first) a.judges
+  -- in front of a prelude that gives such tables all are such
+  prelude_leaves : (names : List (List ℕ)) (prelude : List ℕ) (t : Tables) (a : BehindPrelude names prelude (all_taken t)) → Sure t → PreludeLeaves Sure names prelude (all_taken t) a
+  prelude_leaves names prelude t a l = text_leaves Sure names _ _ a.first prelude _ (all_taken t) a.judges l
+
+  -- so in front of a file that leaves them
+  file_leaves : (names : List (List ℕ)) (prelude text : List ℕ) (mode : Mode) (t : Tables) (j : Judgement) → Once names Sure Counts → (a : BehindPrelude names prelude (all_taken t)) →
+      (g : JudgesText names File mode t text j) → TextLeaves Sure names File mode t text (first_place File) j g → PreludeLeaves Sure names prelude (all_taken t) a
+  file_leaves names prelude text mode t j once a g l = prelude_leaves names prelude t a (front_such Sure names once.before File mode t text (first_place File) j g l)
+
+  accepted_leaves : (names : List (List ℕ)) (text : List ℕ) (mode : Mode) (t u : Tables) (g : JudgesText names File mode t text (all_taken u)) → Sure u →
+      TextLeaves Sure names File mode t text (first_place File) (all_taken u) g
+  accepted_leaves names text mode t u g l = text_leaves Sure names File mode t text (first_place File) (all_taken u) g l
 
   same_tables : (t u : Tables) → all_taken t ≡ all_taken u → t ≡ u
   same_tables t u e = cc
@@ -282,44 +287,49 @@ module _ (Sure : Tables → Type 0) (Counts : Reason → Type 0) where
   same_one_refused : (q r : Refusal) → one_refused q ≡ one_refused r → q ≡ r
   same_one_refused q r e = cc
 
-  pub one_verdict : (names : List (List ℕ)) (prelude text : List ℕ) (mode : Mode) (v w : FileVerdict) → Once names Sure Counts → VerdictCounts Counts v → VerdictCounts Counts w → Verdict names prelude text mode v →
-      Verdict names prelude text mode w → v ≡ w
-  one_verdict names prelude text mode v w once x y (source_too_long l) (source_too_long m) = refl
-  one_verdict names prelude text mode v w once x y (source_too_long l) (prelude_refused r m b) = absurd (omega arith)
-  one_verdict names prelude text mode v w once x y (source_too_long l) (file_refused t r m b h) = absurd (omega arith)
-  one_verdict names prelude text mode v w once x y (source_too_long l) (file_accepted t u m b h) = absurd (omega arith)
-  one_verdict names prelude text mode v w once x y (prelude_refused q l a) (source_too_long m) = absurd (omega arith)
-  one_verdict names prelude text mode v w once x y (prelude_refused q l a) (prelude_refused r m b) =
-      ap refused (same_one_refused q r (same_prelude names prelude _ _ once x y a b))
-  one_verdict names prelude text mode v w once x y (prelude_refused q l a) (file_refused t r m b h) = absurd (cc (same_prelude names prelude _ _ once x tt a b))
-  one_verdict names prelude text mode v w once x y (prelude_refused q l a) (file_accepted t u m b h) = absurd (cc (same_prelude names prelude _ _ once x tt a b))
-  one_verdict names prelude text mode v w once x y (file_refused s q l a g) (source_too_long m) = absurd (omega arith)
-  one_verdict names prelude text mode v w once x y (file_refused s q l a g) (prelude_refused r m b) = absurd (cc (same_prelude names prelude _ _ once tt y a b))
-  one_verdict names prelude text mode v w once x y (file_refused s q l a g) (file_refused t r m b h) =
-      let tables : s ≡ t = same_tables s t (same_prelude names prelude _ _ once tt tt a b) in
-      ap refused (same_one_refused q r (same_judgement names _ mode s text _ _ _ once (behind_sure names prelude s once a) x y g (judges_there names _ mode s t text text _ _ _ tables refl refl h)))
-  one_verdict names prelude text mode v w once x y (file_refused s q l a g) (file_accepted t u m b h) =
-      let tables : s ≡ t = same_tables s t (same_prelude names prelude _ _ once tt tt a b) in
-      absurd (cc (same_judgement names _ mode s text _ _ _ once (behind_sure names prelude s once a) x tt g (judges_there names _ mode s t text text _ _ _ tables refl refl h)))
-  one_verdict names prelude text mode v w once x y (file_accepted s z l a g) (source_too_long m) = absurd (omega arith)
-  one_verdict names prelude text mode v w once x y (file_accepted s z l a g) (prelude_refused r m b) = absurd (cc (same_prelude names prelude _ _ once tt y a b))
-  one_verdict names prelude text mode v w once x y (file_accepted s z l a g) (file_refused t r m b h) =
-      let tables : s ≡ t = same_tables s t (same_prelude names prelude _ _ once tt tt a b) in
-      absurd (cc (same_judgement names _ mode s text _ _ _ once (behind_sure names prelude s once a) tt y g (judges_there names _ mode s t text text _ _ _ tables refl refl h)))
-  one_verdict names prelude text mode v w once x y (file_accepted s z l a g) (file_accepted t u m b h) =
-      let tables : s ≡ t = same_tables s t (same_prelude names prelude _ _ once tt tt a b) in
+  pub one_verdict : (names : List (List ℕ)) (prelude text : List ℕ) (mode : Mode) (v w : FileVerdict) → Once names Sure Counts → VerdictCounts Counts v → VerdictCounts Counts w →
+      (g : Verdict names prelude text mode v) → Verdict names prelude text mode w → VerdictLeaves Sure names prelude text mode v g → v ≡ w
+  one_verdict names prelude text mode v w once x y (source_too_long l) (source_too_long m) e = refl
+  one_verdict names prelude text mode v w once x y (source_too_long l) (prelude_refused r m b) e = absurd (omega arith)
+  one_verdict names prelude text mode v w once x y (source_too_long l) (file_refused t r m b h) e = absurd (omega arith)
+  one_verdict names prelude text mode v w once x y (source_too_long l) (file_accepted t u m b h) e = absurd (omega arith)
+  one_verdict names prelude text mode v w once x y (prelude_refused q l a) (source_too_long m) e = absurd (omega arith)
+  one_verdict names prelude text mode v w once x y (prelude_refused q l a) (prelude_refused r m b) e =
+      ap refused (same_one_refused q r (same_prelude names prelude _ _ once x y a b e))
+  one_verdict names prelude text mode v w once x y (prelude_refused q l a) (file_refused t r m b h) e = absurd (cc (same_prelude names prelude _ _ once x tt a b e))
+  one_verdict names prelude text mode v w once x y (prelude_refused q l a) (file_accepted t u m b h) e = absurd (cc (same_prelude names prelude _ _ once x tt a b e))
+  one_verdict names prelude text mode v w once x y (file_refused s q l a g) (source_too_long m) e = absurd (omega arith)
+  one_verdict names prelude text mode v w once x y (file_refused s q l a g) (prelude_refused r m b) e =
+      absurd (cc (same_prelude names prelude _ _ once tt y a b (file_leaves names prelude text mode s _ once a g e)))
+  one_verdict names prelude text mode v w once x y (file_refused s q l a g) (file_refused t r m b h) e =
+      let tables : s ≡ t = same_tables s t (same_prelude names prelude _ _ once tt tt a b (file_leaves names prelude text mode s _ once a g e)) in
+      ap refused (same_one_refused q r (same_judgement names _ mode s text _ _ _ once x y g (judges_there names _ mode s t text text _ _ _ tables refl refl h) e))
+  one_verdict names prelude text mode v w once x y (file_refused s q l a g) (file_accepted t u m b h) e =
+      let tables : s ≡ t = same_tables s t (same_prelude names prelude _ _ once tt tt a b (file_leaves names prelude text mode s _ once a g e)) in
+      absurd (cc (same_judgement names _ mode s text _ _ _ once x tt g (judges_there names _ mode s t text text _ _ _ tables refl refl h) e))
+  one_verdict names prelude text mode v w once x y (file_accepted s z l a g) (source_too_long m) e = absurd (omega arith)
+  one_verdict names prelude text mode v w once x y (file_accepted s z l a g) (prelude_refused r m b) e =
+      absurd (cc (same_prelude names prelude _ _ once tt y a b (file_leaves names prelude text mode s _ once a g (accepted_leaves names text mode s z g e))))
+  one_verdict names prelude text mode v w once x y (file_accepted s z l a g) (file_refused t r m b h) e =
+      let leaves = accepted_leaves names text mode s z g e in
+      let tables : s ≡ t = same_tables s t (same_prelude names prelude _ _ once tt tt a b (file_leaves names prelude text mode s _ once a g leaves)) in
+      absurd (cc (same_judgement names _ mode s text _ _ _ once tt y g (judges_there names _ mode s t text text _ _ _ tables refl refl h) leaves))
+  one_verdict names prelude text mode v w once x y (file_accepted s z l a g) (file_accepted t u m b h) e =
+      let leaves = accepted_leaves names text mode s z g e in
+      let tables : s ≡ t = same_tables s t (same_prelude names prelude _ _ once tt tt a b (file_leaves names prelude text mode s _ once a g leaves)) in
       ap (λ k. accepted (rows_of k))
-      (same_tables z u (same_judgement names _ mode s text _ _ _ once (behind_sure names prelude s once a) tt tt g (judges_there names _ mode s t text text _ _ _ tables refl refl h)))
+      (same_tables z u (same_judgement names _ mode s text _ _ _ once tt tt g (judges_there names _ mode s t text text _ _ _ tables refl refl h) leaves))
 
   -- a prelude that is taken once is taken in front of each file
   pub of_file : (names : List (List ℕ)) (prelude text : List ℕ) (mode : Mode) (v w : FileVerdict) (program : ProgramRows) (r : Refusal) → Once names Sure Counts → VerdictCounts Counts w →
-      Verdict names prelude [] Run v → v ≡ accepted program → Verdict names prelude text mode w → w ≡ refused r → IsOfFile names text mode r
-  of_file names prelude text mode v w program r once y (source_too_long l) e b f = absurd (cc)
-  of_file names prelude text mode v w program r once y (prelude_refused q l a) e b f = absurd (cc)
-  of_file names prelude text mode v w program r once y (file_refused s q l a g) e b f = absurd (cc)
-  of_file names prelude text mode v w program r once y (file_accepted s x l a g) e (source_too_long m) f = its_length (cc)
-  of_file names prelude text mode v w program r once y (file_accepted s x l a g) e (prelude_refused q m b) f = absurd (cc (same_prelude names prelude _ _ once tt y a b))
-  of_file names prelude text mode v w program r once y (file_accepted s x l a g) e (file_refused t q m b h) f =
+      (g : Verdict names prelude [] Run v) → VerdictLeaves Sure names prelude [] Run v g → v ≡ accepted program → Verdict names prelude text mode w → w ≡ refused r → IsOfFile names text mode r
+  of_file names prelude text mode v w program r once y (source_too_long l) k e b f = absurd (cc)
+  of_file names prelude text mode v w program r once y (prelude_refused q l a) k e b f = absurd (cc)
+  of_file names prelude text mode v w program r once y (file_refused s q l a g) k e b f = absurd (cc)
+  of_file names prelude text mode v w program r once y (file_accepted s x l a g) k e (source_too_long m) f = its_length (cc)
+  of_file names prelude text mode v w program r once y (file_accepted s x l a g) k e (prelude_refused q m b) f =
+      absurd (cc (same_prelude names prelude _ _ once tt y a b (file_leaves names prelude [] Run s _ once a g (accepted_leaves names [] Run s x g k))))
+  of_file names prelude text mode v w program r once y (file_accepted s x l a g) k e (file_refused t q m b h) f =
       let same : q ≡ r = cc in
       in_it t (subst (λ y. JudgesText names File mode t text (one_refused y)) same h)
-  of_file names prelude text mode v w program r once y (file_accepted s x l a g) e (file_accepted t u m b h) f = absurd (cc)
+  of_file names prelude text mode v w program r once y (file_accepted s x l a g) k e (file_accepted t u m b h) f = absurd (cc)

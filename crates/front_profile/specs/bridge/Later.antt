@@ -10,7 +10,7 @@ use Rattle.base.specs.DataNames.{symbol_text, text_of, text_same}
 use Rattle.base.specs.AllOf.{AllOf}
 use Rattle.base.specs.WellFormedData.{WellFormed}
 use Rattle.lang_derived.specs.Asked.{list_items}
-use Rattle.front_profile.specs.declared.elaboration.DefinedAs.TheVariants.{Function}
+use Rattle.front_profile.specs.declared.elaboration.DefinedAs.TheVariants.{Function, Macro}
 use Rattle.front_profile.specs.declared.elaboration.Elaboration.TheVariants.{CallOfValue}
 use Rattle.front_profile.specs.declared.special.Special.{Special}
 use Rattle.front_profile.specs.declared.special.Special.TheVariants as name
@@ -73,6 +73,7 @@ row_later : (old new : List (List ℕ)) (x : Special) (a : StaticContext) (s : T
     AllOf (WellFormed (length old)) ds → NodeStays (special_row old x a s p ds) (special_row new x a s p ds)
 row_later old new name.WithFunctions a s p ds e g = inr (ap (λ kept. with_functions_row kept a s p ds) (same_functions old new ds e g))
 row_later old new name.Defun a s p ds e g = inr (ap (λ kept. defun_row Function kept a s p ds) (same_reserved old new ds e g))
+row_later old new name.Defmacro a s p ds e g = inr (ap (λ kept. defun_row Macro kept a s p ds) (same_reserved old new ds e g))
 row_later old new name.Defclass a s p ds e g = defclass_later old new a s p ds e g
 row_later old new name.Defgeneric a s p ds e g = defgeneric_later old new a s p ds e g
 row_later old new name.Defmethod a s p ds e g = defmethod_later old new a s p ds e g

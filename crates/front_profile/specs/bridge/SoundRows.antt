@@ -9,7 +9,7 @@ use Rattle.base.specs.AllOf.{AllOf}
 use Rattle.base.specs.WellFormedData.{WellFormed}
 use Rattle.front_profile.specs.declared.elaboration.Leaf.TheVariants.{NextMethod, HasNext}
 use Rattle.lang_meaning.specs.declared.kinds.OverTwo.TheVariants.{Apply, While, Catch, Throw, Unwind, WithHandler}
-use Rattle.front_profile.specs.declared.elaboration.DefinedAs.TheVariants.{Function}
+use Rattle.front_profile.specs.declared.elaboration.DefinedAs.TheVariants.{Function, Macro}
 use Rattle.front_profile.specs.declared.elaboration.Elaboration.TheVariants.{CallOfValue}
 use Rattle.front_profile.specs.declared.special.Special.{Special}
 use Rattle.front_profile.specs.declared.special.Special.TheVariants as name
@@ -59,7 +59,7 @@ sound_special names n name.Defglobal a s p ds g = sound_global n false a s p ds 
 sound_special names n name.Defconstant a s p ds g = sound_global n true a s p ds g
 sound_special names n name.Defdynamic a s p ds g = sound_defdynamic n a s p ds g
 sound_special names n name.Defun a s p ds g = sound_defun n Function (first_reserved names ds) a s p ds g
-sound_special names n name.Defmacro a s p ds g = tt
+sound_special names n name.Defmacro a s p ds g = sound_defun n Macro (first_reserved names ds) a s p ds g
 sound_special names n name.Defclass a s p ds g = sound_defclass names n a s p ds g
 sound_special names n name.Defgeneric a s p ds g = sound_defgeneric names n a s p ds g
 sound_special names n name.Defmethod a s p ds g = sound_defmethod names n a s p ds g

@@ -1,7 +1,9 @@
--- The law is the lemma, with the laws of texts and of forms: behind tables without macros, of all refusals; else of those that are exact.
-use Rattle.std.proofs.Common.{ap, length, refl}
+-- The law is the lemma, with the laws of texts and of forms: where the prelude defines no macro, of all refusals; else of those that are exact.
+use Rattle.std.proofs.Common.{[], ap, length, refl}
 use Rattle.front_profile.specs.Cuts.{opened}
-use Rattle.front_files.proofs.Told.{WithoutMacros, AnyEnd, AnyTables, IsExactReason, first_without, given_without, counts_exact}
+use Rattle.front_files.proofs.Told.{AnyEnd, AnyTables, IsExactReason, before_without, any_left, counts_exact}
+use Rattle.front_files.specs.declared.mode.Mode.TheVariants.{Run}
+use Rattle.front_files.specs.WithoutMacros.{WithoutMacros}
 use Rattle.front_files.specs.bridge.Once.{of_file}
 use Rattle.front_files.proofs.laws.law_prelude.Goals as goal
 
@@ -9,26 +11,24 @@ pub returns-clause-without : goal.returns-clause-without
 returns-clause-without c = λ names prelude text mode program r table v w.
     of_file WithoutMacros AnyEnd names prelude text mode _ _ program r (record {
       table = table;
-      first = λ s f. first_without names s f;
-      kept = λ origin s d t none g. given_without c.law_macros.ensures names origin s d t none g;
+      before = λ origin s d t none x. before_without c.law_growth.ensures names origin s d t none x;
       form = λ a s d v w none x y h k. c.law_one_verdict.ensures.without names a (opened s) d v w table (ap length none) h k;
       next = λ rest p d e after left x y. c.law_one_datum.ensures names rest p d e after left x y;
       stop = c.law_one_stop.ensures;
       next_or_stop = λ rest p d after at r x y. c.law_next_or_stops.ensures names rest p d after at r x y;
       end_or_next = λ rest p d after g x. c.law_end.ensures.datum names rest p d after g x;
       end_or_stop = c.law_end.ensures.stop;
-    }) tt v refl w refl
+    }) tt v.verdict v.none refl w refl
 
 pub returns-clause-exact : goal.returns-clause-exact
 returns-clause-exact c = λ names prelude text mode program r table one y v w.
     of_file AnyTables IsExactReason names prelude text mode _ _ program r (record {
       table = table;
-      first = λ s f. tt;
-      kept = λ origin s d t x g. tt;
+      before = λ origin s d t x g. tt;
       form = λ a s d v w any x y h k. c.law_one_verdict.ensures.exact names a (opened s) d v w table one (counts_exact v x) (counts_exact w y) h k;
       next = λ rest p d e after left x y. c.law_one_datum.ensures names rest p d e after left x y;
       stop = c.law_one_stop.ensures;
       next_or_stop = λ rest p d after at r x y. c.law_next_or_stops.ensures names rest p d after at r x y;
       end_or_next = λ rest p d after g x. c.law_end.ensures.datum names rest p d after g x;
       end_or_stop = c.law_end.ensures.stop;
-    }) y v refl w refl
+    }) y v (any_left names prelude [] Run _ v) refl w refl
