@@ -1,0 +1,2 @@
+-- What shows that the tests tell of the names.
+pub mod Told
