@@ -1,5 +1,6 @@
 -- What the tests tell: a program passes them exactly where all its names are below the number.
-use Rattle.std.proofs.Common.{◌≡◌, ℕ, ◌<◌, Bool, true, false, ◌&&◌, List, [], ◌∷◌, Option, Some, None, refl, sym, ap, ◌∙◌, nat_lt}
+use Rattle.std.proofs.Common.{◌≡◌, ℕ, ◌<◌, Bool, true, false, ◌&&◌, nat_lt, List, [], ◌∷◌, Option, Some, None}
+use Rattle.std.proofs.Common.{refl, sym, ap, ◌∙◌}
 use Rattle.std.specs.Prelude.{◌↔◌, IsTrue}
 use Rattle.std.specs.List.{list_all}
 use Rattle.std.proofs.lemmas.Bool.{ltb-true, lt-ltb}
@@ -18,45 +19,13 @@ use Rattle.lang_meaning.specs.declared.program.ClassRow.{ClassRow}
 use Rattle.lang_meaning.specs.declared.program.GenericRow.{GenericRow}
 use Rattle.lang_meaning.specs.declared.program.FunctionRow.{FunctionRow}
 use Rattle.lang_meaning.specs.declared.program.ProgramRows.{ProgramRows}
-use Rattle.lang_meaning.specs.declared.core_form.DynBinding.{DynBinding}
-use Rattle.lang_meaning.specs.model.View.{dynamics_of}
 use Rattle.lang_meaning.specs.Form.{Form}
 use Rattle.lang_meaning.specs.Inside.{inside_form}
-use Rattle.lang_meaning.specs.Subforms.{outer, inner}
-use Rattle.lang_meaning.specs.bridge.Judged.{all_inside}
-use Rattle.front_profile.specs.ProgramNames.{names_bound, own_names, FormNamesIn, LiteralNamesIn, MaybeNameIn, NameIn, ProcedureNamesIn, SlotNamesIn, ClassNamesIn, NamesIn}
-use Rattle.front_names.specs.Tests.{is_name_below, is_maybe_below, is_symbol_below, is_datum_below, is_content_below, are_data_below, is_tail_below}
-use Rattle.front_names.specs.Tests.{are_own_below, is_form_below, is_literal_below, is_procedure_below, is_slot_below, is_class_below, are_rows_below}
-
--- what stands in lists of names as code goes over them
-
-pub one_below : (count n : ℕ) → list_all (λ m. nat_lt m count) (n ∷ []) ≡ nat_lt n count
-one_below count n = and_true (nat_lt n count)
-  where
-    and_true : (b : Bool) → (b && true) ≡ b
-    and_true true = refl
-    and_true false = refl
-
-pub bound_below : (count : ℕ) (bs : List DynBinding)
-    → list_all (λ n. nat_lt n count) (names_bound (dynamics_of bs)) ≡ list_all (λ (b : DynBinding). nat_lt b.name.0 count) bs
-bound_below count [] = refl
-bound_below count (b ∷ bs) = ap (λ t. nat_lt b.name.0 count && t) (bound_below count bs)
-
-and_assoc : (a b c : Bool) → (a && (b && c)) ≡ ((a && b) && c)
-and_assoc true b c = refl
-and_assoc false b c = refl
-
--- a form, by the forms right inside
-pub form_from : (count : ℕ) (f : Form) (outs ins : List Form) (own of_outs of_ins result : Bool) → outs ≡ outer f → ins ≡ inner f
-    → own ≡ are_own_below count f → of_outs ≡ list_all (is_form_below count) outs → of_ins ≡ list_all (is_form_below count) ins
-    → result ≡ (own && (of_outs && of_ins)) → result ≡ is_form_below count f
-form_from count f outs ins own of_outs of_ins result o i is_own are_outs are_ins is =
-    is
-    ∙ ap (λ b. b && (of_outs && of_ins)) is_own
-    ∙ ap (λ b. are_own_below count f && (b && of_ins)) (are_outs ∙ ap (list_all (is_form_below count)) o)
-    ∙ ap (λ b. are_own_below count f && (list_all (is_form_below count) (outer f) && b)) (are_ins ∙ ap (list_all (is_form_below count)) i)
-    ∙ and_assoc (are_own_below count f) (list_all (is_form_below count) (outer f)) (list_all (is_form_below count) (inner f))
-    ∙ sym (all_inside (are_own_below count) f)
+use Rattle.front_profile.specs.ProgramNames.{own_names, NameIn, MaybeNameIn, FormNamesIn, LiteralNamesIn}
+use Rattle.front_profile.specs.ProgramNames.{ProcedureNamesIn, SlotNamesIn, ClassNamesIn, NamesIn}
+use Rattle.front_names.specs.Tests.{is_name_below, is_maybe_below, is_symbol_below, is_datum_below, is_content_below}
+use Rattle.front_names.specs.Tests.{are_data_below, is_tail_below, are_own_below, is_form_below, is_literal_below}
+use Rattle.front_names.specs.Tests.{is_procedure_below, is_slot_below, is_class_below, are_rows_below}
 
 -- tests that tell, put together
 
@@ -64,7 +33,8 @@ both_tell : {P Q : Type 0} (a b : Bool) → IsTrue a ↔ P → IsTrue b ↔ Q �
 both_tell true b p q = ((λ h. (p.0 refl, q.0 h)), λ h. q.1 h.1)
 both_tell false b p q = ((λ h. absurd (cc h)), λ h. p.1 h.0)
 
-all_tell : {X : Type 0} (P : X → Type 0) (f : X → Bool) → ((x : X) → IsTrue (f x) ↔ P x) → (xs : List X) → IsTrue (list_all f xs) ↔ AllOf P xs
+all_tell : {X : Type 0} (P : X → Type 0) (f : X → Bool) → ((x : X) → IsTrue (f x) ↔ P x) → (xs : List X)
+    → IsTrue (list_all f xs) ↔ AllOf P xs
 all_tell P f h [] = ((λ e. tt), λ e. refl)
 all_tell P f h (x ∷ xs) = both_tell (f x) (list_all f xs) (h x) (all_tell P f h xs)
 
@@ -98,7 +68,8 @@ module _ (count : ℕ) where
 
     data_told : (ds : Items) → IsTrue (are_data_below count ds) ↔ AllNamesBelow count ds
     data_told no_item = always_tells
-    data_told (item_and d ds) = both_tell (is_datum_below count d) (are_data_below count ds) (datum_told d) (data_told ds)
+    data_told (item_and d ds) =
+        both_tell (is_datum_below count d) (are_data_below count ds) (datum_told d) (data_told ds)
 
     tail_told : (t : Tail) → IsTrue (is_tail_below count t) ↔ NamesBelowTail count t
     tail_told no_tail = always_tells
@@ -127,32 +98,37 @@ module _ (count : ℕ) where
 
   procedure_told : (p : Procedure) → IsTrue (is_procedure_below count p) ↔ ProcedureNamesIn count p
   procedure_told p =
-      let both = both_tell (is_maybe_below count p.name) (is_form_below count p.body) (maybe_told p.name) (form_told p.body) in
+      let body = form_told p.body in
+      let both = both_tell (is_maybe_below count p.name) (is_form_below count p.body) (maybe_told p.name) body in
       ((λ h. record { name = (both.0 h).0; body = (both.0 h).1 }), λ h. both.1 (h.name, h.body))
 
   slot_told : (s : SlotRow) → IsTrue (is_slot_below count s) ↔ SlotNamesIn count s
   slot_told s =
-      let both = both_tell (is_name_below count s.name) (list_all (is_name_below count) s.initargs) (name_told s.name)
-      (all_tell (NameIn count) (is_name_below count) name_told s.initargs) in
+      let initargs = all_tell (NameIn count) (is_name_below count) name_told s.initargs in
+      let both = both_tell _ _ (name_told s.name) initargs in
       ((λ h. record { name = (both.0 h).0; initargs = (both.0 h).1 }), λ h. both.1 (h.name, h.initargs))
 
   class_told : (c : ClassRow) → IsTrue (is_class_below count c) ↔ ClassNamesIn count c
   class_told c =
-      let both = both_tell (is_name_below count c.name) (list_all (is_slot_below count) c.slots) (name_told c.name)
-      (all_tell (SlotNamesIn count) (is_slot_below count) slot_told c.slots) in
+      let slots = all_tell (SlotNamesIn count) (is_slot_below count) slot_told c.slots in
+      let both = both_tell _ _ (name_told c.name) slots in
       ((λ h. record { name = (both.0 h).0; slots = (both.0 h).1 }), λ h. both.1 (h.name, h.slots))
+
+  generic_told : (g : GenericRow) → IsTrue (is_name_below count g.name) ↔ NameIn count g.name
+  generic_told g = name_told g.name
+
+  function_told : (f : FunctionRow) → IsTrue (is_name_below count f.name) ↔ NameIn count f.name
+  function_told f = name_told f.name
 
   -- the rows of a program together
   rows_tell : (rows : ProgramRows) → IsTrue (are_rows_below count rows) ↔ NamesIn count rows
   rows_tell rows =
-      let literals = all_tell (LiteralNamesIn count) (is_literal_below count) literal_told rows.literals in
-      let procedures = all_tell (ProcedureNamesIn count) (is_procedure_below count) procedure_told rows.procedures in
-      let classes = all_tell (ClassNamesIn count) (is_class_below count) class_told rows.classes in
-      let generics = all_tell (λ (g : GenericRow). NameIn count g.name) (λ (g : GenericRow). is_name_below count g.name)
-      (λ g. name_told g.name) rows.generics in
-      let functions = all_tell (λ (f : FunctionRow). NameIn count f.name) (λ (f : FunctionRow). is_name_below count f.name)
-      (λ f. name_told f.name) rows.functions in
-      let main = all_tell (FormNamesIn count) (is_form_below count) form_told rows.main in
+      let literals = all_tell _ _ literal_told rows.literals in
+      let procedures = all_tell _ _ procedure_told rows.procedures in
+      let classes = all_tell _ _ class_told rows.classes in
+      let generics = all_tell _ _ generic_told rows.generics in
+      let functions = all_tell _ _ function_told rows.functions in
+      let main = all_tell _ _ form_told rows.main in
       let two = both_tell _ _ literals procedures in
       let three = both_tell _ _ two classes in
       let four = both_tell _ _ three generics in

@@ -30,7 +30,7 @@ fn are_forms_below(forms: Subforms<'_>, count: usize) -> bool
 }
 
 // The names that the form has itself.
-#[tactic(auto, using(crate::proofs::Told::one_below, crate::proofs::Told::bound_below))]
+#[tactic(auto, using(crate::proofs::Folded::one_below, crate::proofs::Folded::bound_below))]
 fn are_own_below(form: &Core, count: usize) -> bool
     ensures { result ≡ are_own_below count form.now }
 {

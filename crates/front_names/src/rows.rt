@@ -3,9 +3,10 @@
 ghost use Rattle.std.specs.Prelude.{◌≡◌, ◌↔◌, IsTrue};
 ghost use Rattle.std.specs.List.{list_all};
 ghost use Rattle.front_profile.specs.ProgramNames.{NamesIn};
-ghost use Rattle.front_names.specs.Tests.{is_name_below, is_maybe_below, is_form_below, is_literal_below, is_procedure_below, is_slot_below, is_class_below, are_rows_below};
 ghost use Rattle.lang_meaning.specs.declared.program.GenericRow.{GenericRow as generic};
 ghost use Rattle.lang_meaning.specs.declared.program.FunctionRow.{FunctionRow as function};
+ghost use Rattle.front_names.specs.Tests.{is_name_below, is_maybe_below, is_form_below, is_literal_below};
+ghost use Rattle.front_names.specs.Tests.{is_procedure_below, is_slot_below, is_class_below, are_rows_below};
 
 use crate::data::is_datum_below;
 use crate::forms::is_form_below;
@@ -16,7 +17,7 @@ use lang_meaning::{
 };
 
 /// Whether all names of a program are in a table of so many: those of its rows, of its literals, and of all its forms,
-/// reached or not. Takes no memory.
+/// reached or not. Takes no memory but stack, as deep as forms or data stand inside one another.
 pub fn are_names_below(program: &Program, count: usize) -> bool
     ensures { IsTrue result ↔ NamesIn count program.now }
 {
