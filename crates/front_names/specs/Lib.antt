@@ -1,0 +1,2 @@
+-- What front_names tells of a program.
+pub mod Tests
