@@ -13,7 +13,8 @@ use Rattle.lang_meaning.specs.declared.program.ProgramRows.{ProgramRows}
 use Rattle.lang_alike.specs.Laws.{LawOfAlikeData}
 use Rattle.lang_taken.specs.Taken.{greatest_size, greatest_depth}
 use Rattle.front_profile.specs.Expanders.{program_of}
-use Rattle.front_profile.specs.Expansions.{HasExpander, ExpansionStops, expander_words, expander_instructions, is_unhandled, has_printed, is_no_datum, too_many_nodes, large_image, full, long, endless}
+use Rattle.lang_meaning.specs.Meaning.{End, ended_value, ended_unhandled, ended_full, ended_more}
+use Rattle.front_profile.specs.Expansions.{IsHalt, HasExpander, ExpansionStops, expander_words, expander_instructions, is_unhandled, has_printed, is_no_datum, too_many_nodes, large_image, full, long, endless}
 use Rattle.front_programs.specs.declared.expanding.MacroCall.{MacroCall}
 use Rattle.front_programs.specs.Calls.{CallExpands, CallStops, ProgramStops}
 use Rattle.mid_arena.specs.Layouts.{AreBytes}
@@ -26,6 +27,7 @@ use Rattle.rv_machine.specs.declared.ending.Ending.TheVariants.{Halt, Unhandled,
 use Rattle.rv_machine.specs.Run.{Ended}
 use Rattle.rv_machine.specs.State as machine
 use Rattle.back_claims.specs.Program.{start_words}
+use Rattle.back_meant.specs.Laws.{IsOwnEnd}
 use Rattle.back_build.specs.Means.{Holds, HaltsWith, EndsUnhandled, EndsFull, ImageMeans}
 use Rattle.back_build.specs.Values.{LawOfValuesLeft}
 use Rattle.back_build.specs.WordsLeft.{AreWordsOf}
@@ -52,6 +54,13 @@ pub other_of :
 other_of e (inl (kind, address, is)) = subst IsOther (sym is) tt
 other_of e (inr (inl is)) = subst IsOther (sym is) tt
 other_of e (inr (inr is)) = subst IsOther (sym is) tt
+
+-- an end of the program's own
+is_halt : (e : End) → IsOwnEnd e → IsHalt e
+is_halt (ended_value v) own = tt
+is_halt (ended_unhandled c place) own = tt
+is_halt (ended_full asked left) own = absurd own
+is_halt ended_more own = absurd own
 
 -- there is no program of the call with so few nodes
 pub of_program : (names : List (List ℕ)) (call : MacroCall) (stop : Stop) → ProgramStops call stop → CallStops names call stop
@@ -148,7 +157,7 @@ module _ (names : List (List ℕ)) (call : MacroCall) (built : Built) (c : IsCom
     pub of_budget : x.ending ≡ Budget → Stops ExpanderBudget
     of_budget e = elim (means.paid expander_instructions (omega arith) e) [
       | inl more ↦ endless expander more
-      | inr (ended, dear) ↦ long expander expander_instructions ended dear
+      | inr (ended, dear) ↦ long expander expander_instructions (is_halt (call_means names call).end ended) dear
     ]
 
     -- there is no other end
