@@ -1,5 +1,5 @@
 -- The word with which a run of a built image halts is taken for the value of the program.
-use Rattle.std.proofs.Common.{◌≡◌, ◌⊎◌, inl, inr, ℕ, List, sym, ap, subst}
+use Rattle.std.proofs.Common.{◌≡◌, ◌⊎◌, inl, inr, ℕ, List, subst}
 use Rattle.lang_meaning.specs.declared.program.ProgramRows.{ProgramRows}
 use Rattle.lang_meaning.specs.Meaning.{Meant}
 use Rattle.flat_language.specs.Flatten.{flat_program}
