@@ -2,7 +2,7 @@
 use Rattle.std.proofs.Common.{◌≡◌, ℕ, suc, ◌+◌, ◌≤◌, Bool, true, false, List, [], ◌∷◌, length, refl, sym, ap, ◌∙◌, subst, arith}
 use Rattle.lang_meaning.specs.Objects.{control_error_class, instance}
 use Rattle.lang_meaning.specs.Prefixes.{IsPrefix}
-use Rattle.lang_meaning.specs.State.{DynamicContext, full, has_room, room_left}
+use Rattle.lang_meaning.specs.State.{DynamicContext, has_room, room_left}
 use Rattle.lang_meaning.specs.State as meaning
 use Rattle.lang_meaning.specs.Values.{nil, object}
 use Rattle.lang_meaning.specs.Counts.{unit_cost}
