@@ -280,13 +280,19 @@ module _ (lowering : LoweringIsRight) (base : Setting) (laid : List ℕ) (l : Lo
 
     goes : (g : End) → m.end ≡ g → (g ≡ ended_more) ⊎ (IsOwnEnd g × (n < bound m.units))
     goes (ended_value v) is =
-        inr (tt, charged_more (ended_value v) is tt (λ paid.
-        said_value paid v (code_end (free n) input n y)
-        (subst (λ g. MeansEnd (free n) input n y (code_end (free n) input n y) g ⊎ RunsOutFor (free n) input n y unlimited (code_end (free n) input n y)) is (does_free n).ends)))
+        inr (
+          tt,
+          charged_more (ended_value v) is tt (λ paid.
+              said_value paid v (code_end (free n) input n y)
+              (subst (λ g. MeansEnd (free n) input n y (code_end (free n) input n y) g ⊎ RunsOutFor (free n) input n y unlimited (code_end (free n) input n y)) is (does_free n).ends)),
+        )
     goes (ended_unhandled c place) is =
-        inr (tt, charged_more (ended_unhandled c place) is tt (λ paid.
-        said_unhandled paid c place (code_end (free n) input n y)
-        (subst (λ g. MeansEnd (free n) input n y (code_end (free n) input n y) g ⊎ RunsOutFor (free n) input n y unlimited (code_end (free n) input n y)) is (does_free n).ends)))
+        inr (
+          tt,
+          charged_more (ended_unhandled c place) is tt (λ paid.
+              said_unhandled paid c place (code_end (free n) input n y)
+              (subst (λ g. MeansEnd (free n) input n y (code_end (free n) input n y) g ⊎ RunsOutFor (free n) input n y unlimited (code_end (free n) input n y)) is (does_free n).ends)),
+        )
     goes (ended_full asked left_then) is = absurd (had_room n asked left_then is)
     goes ended_more is = inl refl
 
