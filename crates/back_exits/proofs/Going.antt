@@ -230,6 +230,6 @@ module _ (setting : Setting) (placed : IsPlaced setting) (k : ℕ) (a : Start se
           subst (λ q. EndsAt setting whole a (leaves e v landing z) q) (sym (so (cuts t.transfer.to.outside t.transfer.word) tt t.transfer.end)) (left_by (went t))
       by (full_there f) = absurd (cc f.outcome)
       by (stopped h) =
-          subst (λ q. EndsAt setting whole a (leaves e v landing z) q) (sym (so q7.end (stop_passes q7.end h.because) refl)) 
+          subst (λ q. EndsAt setting whole a (leaves e v landing z) q) (sym (so q7.end (stop_passes q7.end h.because) refl))
           (stopped (record { because = h.because; printed = h.printed; paid = λ ended. omega (arith, came7.paid, enough, h.paid ended) }))
       by (few_turns h) = let size = came7.world.same_size in few_turns (omega (arith, h, size, up))

@@ -467,7 +467,7 @@ module _ (setting : Setting) (right : ProgramIsRight setting) (k entry : ℕ) (e
             (sym e)
             (subst (λ o. CallEnds setting body_paid setting.turns_each rs valid w around (charged 1 z) y' (next z') o) (sym f) (made_ends w' z' regs' y2 m others))
         by (are_full x) = full_there x
-        by (are_stopped x) = stopped (stopped_before setting (omega (arith, site.few)) x)
+        by (are_stopped x) = stopped (stopped_before setting (let few = site.few in omega (arith, few, few_extras)) x)
 
   -- where the body begins, before the unit that its form leaves something of
   before_unit :

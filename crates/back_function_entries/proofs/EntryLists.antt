@@ -326,7 +326,7 @@ module _ (setting : Setting) (k turns : ℕ) (placed : IsPlaced setting) (rs val
 
   body_makes :
       (n address : ℕ) (vs : List Value) → ((v : Value) (others : List Value) → vs ≡ v ∷ others → ArgumentsGiven setting w y.arena address vs) → turns ≡ suc n
-      → BodyMakes setting routine_words 0 (64 + 112 * length vs) spare (given setting) (address ∷ length vs ∷ []) rs valid w around z y (r_of vs) (says vs) k n
+      → BodyMakes setting routine_words 0 38 (64 + 112 * length vs) spare (given setting) (address ∷ length vs ∷ []) rs valid w around z y (r_of vs) (says vs) k n
   body_makes n address vs given_there left_turns y' i =
       let t = i.call.things in
       let end = words_end setting w z y y' address vs t i.words i.from given_there in

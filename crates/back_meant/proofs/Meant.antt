@@ -235,9 +235,9 @@ module _ (lowering : LoweringIsRight) (base : Setting) (laid : List ℕ) (l : Lo
     not_ended mid.stuck z h other = h
 
     -- the code has ended within what its units pay
-    in_cost : bound m.units ≤ n → (m.end ≡ ended_more → ⊥) → IsSaid (code_end (free n) input n y)
+    said_in_cost : bound m.units ≤ n → (m.end ≡ ended_more → ⊥) → IsSaid (code_end (free n) input n y)
         → EndsAs (code_end (free n) input n y) (run (free n) n y).state (run_of image (4 * at) arena input n)
-    in_cost paid not_more said =
+    said_in_cost paid not_more said =
         let cost = (does_free n).paid not_more (had_room n) in
         let free_start = (begins (turns_for n)).no_cost in
         let same = same_run unlimited (turns_for n) n in
@@ -264,10 +264,10 @@ module _ (lowering : LoweringIsRight) (base : Setting) (laid : List ℕ) (l : Lo
 
     not_paid : bound m.units ≤ n → (g : End) → m.end ≡ g → IsOwnEnd g → IsSaid (code_end (free n) input n y) → ⊥
     not_paid paid (ended_value v) is own said =
-        not_ended (code_end (free n) input n y) (run (free n) n y).state (in_cost paid (λ none. cc (is, none)) said)
+        not_ended (code_end (free n) input n y) (run (free n) n y).state (said_in_cost paid (λ none. cc (is, none)) said)
         (λ e. not_exhausted paid e (ended_value v) is own)
     not_paid paid (ended_unhandled c place) is own said =
-        not_ended (code_end (free n) input n y) (run (free n) n y).state (in_cost paid (λ none. cc (is, none)) said)
+        not_ended (code_end (free n) input n y) (run (free n) n y).state (said_in_cost paid (λ none. cc (is, none)) said)
         (λ e. not_exhausted paid e (ended_unhandled c place) is own)
     not_paid paid (ended_full asked left_then) is own said = own
     not_paid paid ended_more is own said = own
@@ -280,13 +280,19 @@ module _ (lowering : LoweringIsRight) (base : Setting) (laid : List ℕ) (l : Lo
 
     goes : (g : End) → m.end ≡ g → (g ≡ ended_more) ⊎ (IsOwnEnd g × (n < bound m.units))
     goes (ended_value v) is =
-        inr (tt, charged_more (ended_value v) is tt (λ paid.
-        said_value paid v (code_end (free n) input n y)
-        (subst (λ g. MeansEnd (free n) input n y (code_end (free n) input n y) g ⊎ RunsOutFor (free n) input n y unlimited (code_end (free n) input n y)) is (does_free n).ends)))
+        inr (
+          tt,
+          charged_more (ended_value v) is tt (λ paid.
+              said_value paid v (code_end (free n) input n y)
+              (subst (λ g. MeansEnd (free n) input n y (code_end (free n) input n y) g ⊎ RunsOutFor (free n) input n y unlimited (code_end (free n) input n y)) is (does_free n).ends)),
+        )
     goes (ended_unhandled c place) is =
-        inr (tt, charged_more (ended_unhandled c place) is tt (λ paid.
-        said_unhandled paid c place (code_end (free n) input n y)
-        (subst (λ g. MeansEnd (free n) input n y (code_end (free n) input n y) g ⊎ RunsOutFor (free n) input n y unlimited (code_end (free n) input n y)) is (does_free n).ends)))
+        inr (
+          tt,
+          charged_more (ended_unhandled c place) is tt (λ paid.
+              said_unhandled paid c place (code_end (free n) input n y)
+              (subst (λ g. MeansEnd (free n) input n y (code_end (free n) input n y) g ⊎ RunsOutFor (free n) input n y unlimited (code_end (free n) input n y)) is (does_free n).ends)),
+        )
     goes (ended_full asked left_then) is = absurd (had_room n asked left_then is)
     goes ended_more is = inl refl
 
