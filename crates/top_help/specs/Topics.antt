@@ -1,7 +1,7 @@
 -- What `explain` prints, topic by topic: the script text/join writes this file, from docs/REFUSALS.md and docs/CONDITIONS.md.
 use Rattle.std.specs.Prelude.{ℕ, List, [], ◌∷◌, codes}
 use Rattle.top_help.specs.declared.topics.Topic.{Topic as Written}
-use Rattle.top_help.specs.declared.topics.TheConstants.{BAD_BYTE, UNCLOSED_LIST, UNCLOSED_STRING, UNCLOSED_COMMENT, STRAY_CLOSE, BAD_DOT, BAD_SHARP, FLOAT_LITERAL, INTEGER_TOO_WIDE, NEST_TOO_DEEP, SOURCE_TOO_LONG, NAME_TOO_LONG, BAD_SHAPE, NOT_AFORM, BAD_BINDING, DUPLICATE_NAME, NOT_TOP_LEVEL, RESERVED_NAME, UNKNOWN_BLOCK, UNKNOWN_TAG, CONSTANT_SET, LEFT_OUT, DEPTH_LIMIT, PROGRAM_TOO_LARGE, UNKNOWN_CLASS, BAD_SUPERS, BAD_SLOT, UNKNOWN_GENERIC, BAD_METHOD, DISPATCH_TOO_LARGE, DOMAIN_ERROR, PROGRAM_ERROR, UNDEFINED_FUNCTION, UNBOUND_VARIABLE, DIVISION_BY_ZERO, INTEGER_OVERFLOW, CONTROL_ERROR, SIMPLE_ERROR, END_OF_STREAM, PARSE_ERROR, STORAGE_EXHAUSTED}
+use Rattle.top_help.specs.declared.topics.TheConstants.{BAD_BYTE, UNCLOSED_LIST, UNCLOSED_STRING, UNCLOSED_COMMENT, STRAY_CLOSE, BAD_DOT, BAD_SHARP, FLOAT_LITERAL, INTEGER_TOO_WIDE, NEST_TOO_DEEP, SOURCE_TOO_LONG, NAME_TOO_LONG, BAD_SHAPE, NOT_AFORM, BAD_BINDING, DUPLICATE_NAME, NOT_TOP_LEVEL, RESERVED_NAME, UNKNOWN_BLOCK, UNKNOWN_TAG, CONSTANT_SET, LEFT_OUT, DEPTH_LIMIT, PROGRAM_TOO_LARGE, UNKNOWN_CLASS, BAD_SUPERS, BAD_SLOT, UNKNOWN_GENERIC, BAD_METHOD, DISPATCH_TOO_LARGE, EXPANDER_UNHANDLED, EXPANDER_PRINTED, EXPANDER_ARENA, EXPANDER_BUDGET, EXPANSION_NOT_FORM, EXPANSION_TOO_LARGE, EXPANSION_DEPTH, TOO_MANY_EXPANSIONS, DOMAIN_ERROR, PROGRAM_ERROR, UNDEFINED_FUNCTION, UNBOUND_VARIABLE, DIVISION_BY_ZERO, INTEGER_OVERFLOW, CONTROL_ERROR, SIMPLE_ERROR, END_OF_STREAM, PARSE_ERROR, STORAGE_EXHAUSTED}
 
 -- a reason by its number and its name, or a class by its name without brackets and with them
 pub record Topic : Type 0 where
@@ -49,6 +49,14 @@ topics =
     topic (codes "43") (codes "UnknownGeneric") UNKNOWN_GENERIC.now ∷
     topic (codes "44") (codes "BadMethod") BAD_METHOD.now ∷
     topic (codes "45") (codes "DispatchTooLarge") DISPATCH_TOO_LARGE.now ∷
+    topic (codes "60") (codes "ExpanderUnhandled") EXPANDER_UNHANDLED.now ∷
+    topic (codes "61") (codes "ExpanderPrinted") EXPANDER_PRINTED.now ∷
+    topic (codes "62") (codes "ExpanderArena") EXPANDER_ARENA.now ∷
+    topic (codes "63") (codes "ExpanderBudget") EXPANDER_BUDGET.now ∷
+    topic (codes "64") (codes "ExpansionNotForm") EXPANSION_NOT_FORM.now ∷
+    topic (codes "65") (codes "ExpansionTooLarge") EXPANSION_TOO_LARGE.now ∷
+    topic (codes "66") (codes "ExpansionDepth") EXPANSION_DEPTH.now ∷
+    topic (codes "67") (codes "TooManyExpansions") TOO_MANY_EXPANSIONS.now ∷
     topic (codes "domain-error") (codes "<domain-error>") DOMAIN_ERROR.now ∷
     topic (codes "program-error") (codes "<program-error>") PROGRAM_ERROR.now ∷
     topic (codes "undefined-function") (codes "<undefined-function>") UNDEFINED_FUNCTION.now ∷

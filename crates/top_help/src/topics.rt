@@ -241,6 +241,65 @@ pub const DISPATCH_TOO_LARGE: &[u8] = br##"refused 45 DispatchTooLarge
     refused at 1:1
 "##;
 
+/// Of ExpanderUnhandled.
+pub const EXPANDER_UNHANDLED: &[u8] = br##"refused 60 ExpanderUnhandled
+  exactly where: a call whose expander ends by a condition that it does not handle
+  place: the call
+  for example: `(defmacro m () (car 5)) (m)`, refused at the call
+"##;
+
+/// Of ExpanderPrinted.
+pub const EXPANDER_PRINTED: &[u8] = br##"refused 61 ExpanderPrinted
+  exactly where: a call whose expander ends with a value and has printed
+  place: the call
+  for example: `(defmacro m () (format (standard-output) "a")) (m)`, refused at the call
+"##;
+
+/// Of ExpanderArena.
+pub const EXPANDER_ARENA: &[u8] = br##"refused 62 ExpanderArena
+  exactly where: a call whose expander's program has more than 100,000 nodes, or may need more words
+    than are left of 262,144 by its image
+  place: the call
+  for example: `(defmacro m () (create-vector 300000) nil) (m)`, refused at the call
+"##;
+
+/// Of ExpanderBudget.
+pub const EXPANDER_BUDGET: &[u8] = br##"refused 63 ExpanderBudget
+  exactly where: a call whose expander may need more than 20,000,000 instructions
+  place: the call
+  for example: `(defmacro m () (while t)) (m)`, refused at the call
+"##;
+
+/// Of ExpansionNotForm.
+pub const EXPANSION_NOT_FORM: &[u8] = br##"refused 64 ExpansionNotForm
+  exactly where: a call whose expander gives an object that is no datum, or a list or vector in
+    which one stands: an instance, a function, a class, a generic function, a stream
+  place: the call
+  for example: `(defmacro m () (lambda ())) (m)`, refused at the call
+"##;
+
+/// Of ExpansionTooLarge.
+pub const EXPANSION_TOO_LARGE: &[u8] = br##"refused 65 ExpansionTooLarge
+  exactly where: a call whose expander gives data nested above 256, or of a size above 100,000: one
+    for each part, and for each four bytes begun of a string one more
+  place: the call
+  for example: `(defmacro m () (create-vector 100000)) (m)`, refused at the call
+"##;
+
+/// Of ExpansionDepth.
+pub const EXPANSION_DEPTH: &[u8] = br##"refused 66 ExpansionDepth
+  exactly where: a call to which 200 expansions in a row have led
+  place: the call
+  for example: `(defmacro m () '(m)) (m)`, refused at the call
+"##;
+
+/// Of TooManyExpansions.
+pub const TOO_MANY_EXPANSIONS: &[u8] = br##"refused 67 TooManyExpansions
+  exactly where: a call in front of which the file has 5,000 expansions
+  place: the call
+  for example: `(defmacro m ()) (list \{5001 (m) \})`, refused at the call
+"##;
+
 /// Of `<domain-error>`.
 pub const DOMAIN_ERROR: &[u8] = br##"unhandled <domain-error>
   cause: an argument is of a wrong class: `car` or `cdr` of what is no cons, `nil` too
@@ -392,7 +451,7 @@ pub(crate) struct Topic {
 }
 
 /// All that is explained.
-pub(crate) fn topics() -> [Topic; 41]
+pub(crate) fn topics() -> [Topic; 49]
     ensures { view_topics result ≡ all_topics }
 {
     [
@@ -545,6 +604,46 @@ pub(crate) fn topics() -> [Topic; 41]
             short: b"45",
             name: b"DispatchTooLarge",
             text: DISPATCH_TOO_LARGE,
+        },
+        Topic {
+            short: b"60",
+            name: b"ExpanderUnhandled",
+            text: EXPANDER_UNHANDLED,
+        },
+        Topic {
+            short: b"61",
+            name: b"ExpanderPrinted",
+            text: EXPANDER_PRINTED,
+        },
+        Topic {
+            short: b"62",
+            name: b"ExpanderArena",
+            text: EXPANDER_ARENA,
+        },
+        Topic {
+            short: b"63",
+            name: b"ExpanderBudget",
+            text: EXPANDER_BUDGET,
+        },
+        Topic {
+            short: b"64",
+            name: b"ExpansionNotForm",
+            text: EXPANSION_NOT_FORM,
+        },
+        Topic {
+            short: b"65",
+            name: b"ExpansionTooLarge",
+            text: EXPANSION_TOO_LARGE,
+        },
+        Topic {
+            short: b"66",
+            name: b"ExpansionDepth",
+            text: EXPANSION_DEPTH,
+        },
+        Topic {
+            short: b"67",
+            name: b"TooManyExpansions",
+            text: TOO_MANY_EXPANSIONS,
         },
         Topic {
             short: b"domain-error",
