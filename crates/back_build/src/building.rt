@@ -36,11 +36,12 @@ pub struct Built {
     pub symbols: ItemList<SymbolWord>,
 }
 
-/// The image of a program with these names, and the symbols that are laid in it: in every arena that has room for it, it
-/// does what the program means. What the main forms do not reach is left out: the image has at most so many words by the nodes of what is left, and so by those of the program, and it is of what is left
-/// that one of these holds where there is no image. `TooLarge`: a part of the
-/// words laid beside the code is too large, or the image would have 2^24 words or more. `FrameTooSmall`: a frame of the lowered program has not
-/// a word for each register. `NotInForm`: a name is not in the table, has the text of nil, or none has that of t; more variables have boxes
+/// The image of a program with these names, and the symbols that are laid in it: in every arena that has room for it,
+/// it does what the program means. What the main forms do not reach is left out: the image has at most so many words
+/// by the nodes of what is left, and so by those of the program, and it is of what is left that one of these holds
+/// where there is no image. `TooLarge`: a part of the words laid beside the code is too large, or the image would
+/// have 2^24 words or more. `FrameTooSmall`: a frame of the lowered program has not a word for each register.
+/// `NotInForm`: a name is not in the table, has the text of nil, or none has that of t; more variables have boxes
 /// than functions capture; or the lowered code is not in form.
 pub fn build(alloc: Global, program: &Program, names: &Names) -> Result<Built, BuildFault>
     ensures image { IfOk result (λ built. IsBuilt names.now program.now built.symbols built.image) }
