@@ -10,7 +10,7 @@ ghost use Rattle.top_main.specs.Answers.{WriteAnswers, BuildAnswers};
 use crate::kept::Kept;
 use crate::reading::read_program;
 use crate::writing::write_bytes;
-use back_build::{Built, build};
+use back_build::build;
 use base::{Bytes, LONGEST_TEXT, NoMemory, Shelf, Sink};
 use front_files::{Mode, Whole};
 use rv_image_file::write_image;
@@ -67,7 +67,8 @@ fn build_whole<O: Sink>(alloc: Global, whole: &Whole, out: &mut O, kept: &mut Ke
         (Rose (O.faults out.old) (O.faults out.new)) (out.new ≡ out.old) }
 {
     match build(alloc, &whole.program, &whole.names) {
-        Ok(Built { image, .. }) => {
+        Ok(built) => {
+            let image = built.image;
             let answer = write_file(alloc, whole, &image, out);
             kept.image = Some(image);
             answer

@@ -12,7 +12,7 @@ use crate::image_run::run_program;
 use crate::kept::Kept;
 use crate::mode::mode_of;
 use crate::reading::read_program;
-use back_build::{Built, build};
+use back_build::build;
 use base::{LONGEST_TEXT, NoMemory, Shelf, Sink, Source};
 use front_files::Whole;
 use rv_machine::Image;
@@ -87,7 +87,8 @@ pub(crate) fn run<S: Source, O: Sink>(
     ensures count { O.faults out.old ≤ O.faults out.new }
 {
     match build(alloc, &whole.program, &whole.names) {
-        Ok(Built { image, .. }) => {
+        Ok(built) => {
+            let image = built.image;
             let ran = run_built(alloc, whole, &image, bounds, input, out);
             kept.image = Some(image);
             ran

@@ -3,7 +3,7 @@ use Rattle.top_main.proofs.Seen.{seen}
 use Rattle.top_main.proofs.run.run.Goals as goal
 
 pub run_built-ran-requires-clause-is_image : goal.run_built-ran-requires-clause-is_image
-run_built-ran-requires-clause-is_image g c = seen _ _ c.in-Ok.image c.in-Ok.ensures.image c.in-Ok.ensures.size c.in-Ok.ensures.reached_size
+run_built-ran-requires-clause-is_image g c = seen _ _ c.in-Ok.built c.in-Ok.ensures.image c.in-Ok.ensures.size c.in-Ok.ensures.reached_size
 
 pub returns-in-Err-clause-counted : goal.returns-in-Err-clause-counted
 returns-in-Err-clause-counted g c = λ done image is. absurd (cc)
