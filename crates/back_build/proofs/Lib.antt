@@ -6,7 +6,7 @@ mod Lowered
 mod First
 mod Entry
 mod Compiled
-mod Built
+mod ImagesMade
 mod Tested
 mod Failing
 mod Sized

@@ -1,5 +1,5 @@
 -- By the laws of the crates below, and by what images of whole programs mean.
-use Rattle.back_build.proofs.Built.{built_law}
+use Rattle.back_build.proofs.ImagesMade.{built_law}
 use Rattle.back_build.proofs.laws.law_built.Goals as goal
 
 pub returns : goal.returns
