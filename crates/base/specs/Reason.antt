@@ -1,7 +1,7 @@
 -- The number and the name of each reason.
 use Rattle.std.specs.Prelude.{ℕ, List, codes}
 use Rattle.base.specs.declared.reason.Reason.{Reason}
-use Rattle.base.specs.declared.reason.Reason.TheVariants.{BadByte, UnclosedList, UnclosedString, UnclosedComment, StrayClose, BadDot, BadSharp, FloatLiteral, IntegerTooWide, NestTooDeep, SourceTooLong, NameTooLong, BadShape, NotAForm, BadBinding, DuplicateName, NotTopLevel, ReservedName, UnknownBlock, UnknownTag, ConstantSet, LeftOut, DepthLimit, ProgramTooLarge, UnknownClass, BadSupers, BadSlot, UnknownGeneric, BadMethod, DispatchTooLarge, ExpanderUnhandled, ExpanderPrinted, ExpanderArena, ExpanderBudget, ExpansionNotForm, ExpansionTooLarge, ExpansionDepth, TooManyExpansions, NotBuilt}
+use Rattle.base.specs.declared.reason.Reason.TheVariants.{BadByte, UnclosedList, UnclosedString, UnclosedComment, StrayClose, BadDot, BadSharp, FloatLiteral, IntegerTooWide, NestTooDeep, SourceTooLong, NameTooLong, BadShape, NotAForm, BadBinding, DuplicateName, NotTopLevel, ReservedName, UnknownBlock, UnknownTag, ConstantSet, LeftOut, DepthLimit, ProgramTooLarge, UnknownClass, BadSupers, BadSlot, UnknownGeneric, BadMethod, DispatchTooLarge, ExpanderUnhandled, ExpanderPrinted, ExpanderArena, ExpanderBudget, ExpansionNotForm, ExpansionTooLarge, ExpansionDepth, TooManyExpansions}
 
 abbrev pub number_of : Reason → ℕ
 number_of BadByte = 1
@@ -42,7 +42,6 @@ number_of ExpansionNotForm = 64
 number_of ExpansionTooLarge = 65
 number_of ExpansionDepth = 66
 number_of TooManyExpansions = 67
-number_of NotBuilt = 90
 
 abbrev pub text_of : Reason → List ℕ
 text_of BadByte = codes "BadByte"
@@ -83,4 +82,3 @@ text_of ExpansionNotForm = codes "ExpansionNotForm"
 text_of ExpansionTooLarge = codes "ExpansionTooLarge"
 text_of ExpansionDepth = codes "ExpansionDepth"
 text_of TooManyExpansions = codes "TooManyExpansions"
-text_of NotBuilt = codes "NotBuilt"

@@ -86,8 +86,6 @@ pub enum Reason {
     ExpansionDepth,
     /// More than 5,000 expansions of a file.
     TooManyExpansions,
-    /// Not built yet.
-    NotBuilt,
 }
 
 impl Reason {
@@ -134,7 +132,6 @@ impl Reason {
             Reason::ExpansionTooLarge => 65,
             Reason::ExpansionDepth => 66,
             Reason::TooManyExpansions => 67,
-            Reason::NotBuilt => 90,
         }
     }
 
@@ -181,7 +178,6 @@ impl Reason {
             Reason::ExpansionTooLarge => "ExpansionTooLarge",
             Reason::ExpansionDepth => "ExpansionDepth",
             Reason::TooManyExpansions => "TooManyExpansions",
-            Reason::NotBuilt => "NotBuilt",
         }
     }
 }

@@ -4,7 +4,7 @@ use base::Reason;
 use test_rows::RowAnswer;
 
 // All reasons.
-const REASONS: [Reason; 39] = [
+const REASONS: [Reason; 38] = [
     Reason::BadByte,
     Reason::UnclosedList,
     Reason::UnclosedString,
@@ -43,7 +43,6 @@ const REASONS: [Reason; 39] = [
     Reason::ExpansionTooLarge,
     Reason::ExpansionDepth,
     Reason::TooManyExpansions,
-    Reason::NotBuilt,
 ];
 
 /// A number. The answer is the names of the reasons that have it.

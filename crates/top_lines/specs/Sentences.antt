@@ -1,7 +1,7 @@
 -- **Why a text is refused, in one sentence** for each reason, which is the last line of a refusal.
 use Rattle.std.specs.Prelude.{ℕ, List, codes}
 use Rattle.base.specs.declared.reason.Reason.{Reason}
-use Rattle.base.specs.declared.reason.Reason.TheVariants.{BadByte, UnclosedList, UnclosedString, UnclosedComment, StrayClose, BadDot, BadSharp, FloatLiteral, IntegerTooWide, NestTooDeep, SourceTooLong, NameTooLong, BadShape, NotAForm, BadBinding, DuplicateName, NotTopLevel, ReservedName, UnknownBlock, UnknownTag, ConstantSet, LeftOut, DepthLimit, ProgramTooLarge, UnknownClass, BadSupers, BadSlot, UnknownGeneric, BadMethod, DispatchTooLarge, ExpanderUnhandled, ExpanderPrinted, ExpanderArena, ExpanderBudget, ExpansionNotForm, ExpansionTooLarge, ExpansionDepth, TooManyExpansions, NotBuilt}
+use Rattle.base.specs.declared.reason.Reason.TheVariants.{BadByte, UnclosedList, UnclosedString, UnclosedComment, StrayClose, BadDot, BadSharp, FloatLiteral, IntegerTooWide, NestTooDeep, SourceTooLong, NameTooLong, BadShape, NotAForm, BadBinding, DuplicateName, NotTopLevel, ReservedName, UnknownBlock, UnknownTag, ConstantSet, LeftOut, DepthLimit, ProgramTooLarge, UnknownClass, BadSupers, BadSlot, UnknownGeneric, BadMethod, DispatchTooLarge, ExpanderUnhandled, ExpanderPrinted, ExpanderArena, ExpanderBudget, ExpansionNotForm, ExpansionTooLarge, ExpansionDepth, TooManyExpansions}
 
 abbrev pub sentence_of : Reason → List ℕ
 sentence_of BadByte = codes "no spelling of the language allows this byte here"
@@ -42,4 +42,3 @@ sentence_of ExpansionNotForm = codes "the expansion of this macro has an object 
 sentence_of ExpansionTooLarge = codes "the expansion of this macro has a size above 100,000, or is nested deeper than 256"
 sentence_of ExpansionDepth = codes "200 expansions may stand around an expansion, and here stand more"
 sentence_of TooManyExpansions = codes "a file may have 5,000 expansions, and this one has more"
-sentence_of NotBuilt = codes "macros are not built yet"

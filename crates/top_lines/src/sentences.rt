@@ -94,6 +94,5 @@ pub(crate) fn sentence_of(reason: Reason) -> &'static str
             "200 expansions may stand around an expansion, and here stand more"
         }
         Reason::TooManyExpansions => "a file may have 5,000 expansions, and this one has more",
-        Reason::NotBuilt => "macros are not built yet",
     }
 }
