@@ -1,0 +1,4 @@
+-- What a program is warned of.
+pub mod Faults
+pub mod Warnings
+pub mod Known
