@@ -40,13 +40,14 @@ pub fn law_one_verdict()
     law_one_verdict_of_a_table();
 }
 
-/// Two verdicts on a file under one table of names are one, macros defined or not, and so are two whose tables one table
-/// of names begins with: verdicts that are not given for want of words or of instructions of an expander.
+/// Two verdicts on a file under one table of names are one, macros defined or not, and so are two whose tables one
+/// table of names begins with: verdicts that are not given for want of words or of instructions of an expander.
 pub fn law_one_verdict_of_table()
-    ensures one_table { (names : List (List ℕ)) (prelude text : List ℕ) (mode : mode_of) (v w : FileVerdict) → IsTable names →
-        IsExactVerdict v → IsExactVerdict w → Verdict names prelude text mode v → Verdict names prelude text mode w → v ≡ w }
-    ensures fronts { (names a b : List (List ℕ)) (prelude text : List ℕ) (mode : mode_of) (v w : FileVerdict) → IsTable names →
-        Extends a names → Extends b names → IsExactVerdict v → IsExactVerdict w →
+    ensures one_table { (names : List (List ℕ)) (prelude text : List ℕ) (mode : mode_of) (v w : FileVerdict) →
+        IsTable names → IsExactVerdict v → IsExactVerdict w →
+        Verdict names prelude text mode v → Verdict names prelude text mode w → v ≡ w }
+    ensures fronts { (names a b : List (List ℕ)) (prelude text : List ℕ) (mode : mode_of) (v w : FileVerdict) →
+        IsTable names → Extends a names → Extends b names → IsExactVerdict v → IsExactVerdict w →
         Verdict a prelude text mode v → Verdict b prelude text mode w → v ≡ w }
 {
     law_names_apart();

@@ -11,5 +11,5 @@ pub use laws::{
 };
 pub use places::{
     law_data_in_text, law_offence_in_form, law_refusal_in_text, law_refusal_of_prelude,
-    law_refusals_in_text, law_stop_in_text,
+    law_refusals_in_text, law_refusals_of_table_in_text, law_stop_in_text,
 };
