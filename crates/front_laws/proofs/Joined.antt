@@ -5,7 +5,8 @@ use Rattle.base.specs.Names.{IsTable, Extends, Extends-same, Extends-then, has_t
 use Rattle.front_reader.specs.Meanings.{number_in}
 use Rattle.front_laws.specs.Renaming.{Renames}
 use Rattle.front_laws.proofs.RenamedTexts.{number_text, number_there}
-use Rattle.front_laws.proofs.RenamedLater.{place_in, below_length}
+use Rattle.front_expansions.proofs.Later.{place_in}
+use Rattle.front_laws.proofs.RenamedLater.{below_length}
 
 -- the table with these texts behind its own, each once
 abbrev pub with_texts : List (List ℕ) → List (List ℕ) → List (List ℕ)

@@ -1,17 +1,12 @@
 -- Names that are added behind two tables with the same texts leave them tables with the same texts.
-use Rattle.std.specs.Prelude.{◌≡◌, ℕ, zero, suc, ◌+◌, ◌<◌, ◌⊎◌, Bool, true, false, List, [], ◌∷◌, ◌++◌, Option, Some, None, if◌then◌else◌, length, option_map, slice_get, refl}
+use Rattle.std.specs.Prelude.{◌≡◌, ℕ, zero, suc, ◌+◌, ◌<◌, Bool, true, false, List, [], ◌∷◌, ◌++◌, Option, Some, None, if◌then◌else◌, length, option_map, slice_get, refl}
 use Rattle.std.specs.Str.{bytes_eq}
-use Rattle.std.proofs.Common.{arith, ap, sym, ◌∙◌, inl, inr, ⊎_elim, length-append}
+use Rattle.std.proofs.Common.{arith, ap, sym, ◌∙◌, ⊎_elim, length-append}
 use Rattle.base.specs.Names.{slice_get-front}
 use Rattle.front_profile.specs.GivenNames.{number_of}
 use Rattle.front_laws.specs.Renaming.{Renames}
+use Rattle.front_expansions.proofs.Later.{place_in}
 use Rattle.front_laws.proofs.RenamedTexts.{FindsNames}
-
--- a number is one of a list, or one behind it
-pub place_in : {X : Type 0} (xs : List X) (n : ℕ) → ((x : X) × (slice_get xs n ≡ Some x)) ⊎ ((k : ℕ) × (n ≡ length xs + k))
-place_in [] n = inr (n, omega arith)
-place_in (x ∷ xs) zero = inl (x, refl)
-place_in (x ∷ xs) (suc n) = ⊎_elim (λ h. inl h) (λ h. let e : n ≡ length xs + h.0 = h.1 in inr (h.0, omega (arith, e))) (place_in xs n)
 
 pub get_behind : {X : Type 0} (xs ys : List X) (k : ℕ) → slice_get (xs ++ ys) (length xs + k) ≡ slice_get ys k
 get_behind [] ys k = ap (slice_get ys) (omega arith)

@@ -3,18 +3,20 @@
 ghost use Rattle.std.specs.Prelude.{◌≡◌, ◌<◌, ℕ, List, Option, length};
 ghost use Rattle.base.specs.declared.reason.Refusal.{Refusal as refusal};
 ghost use Rattle.base.specs.AllOf.{AllOf};
-ghost use Rattle.base.specs.Names.{IsTable};
+ghost use Rattle.base.specs.Names.{IsTable, Extends};
 ghost use Rattle.lang_meaning.specs.declared.program.ProgramRows.{ProgramRows as program_rows};
 ghost use Rattle.lang_meaning.specs.declared.evaluation.EvaluationEnd.{EvaluationEnd as evaluation_end};
 ghost use Rattle.lang_meaning.specs.Evaluates.{Evaluates};
 ghost use Rattle.lang_renamed.specs.ProgramNames.{program_names};
 ghost use Rattle.front_files.specs.declared.mode.Mode.{Mode as mode_of};
-ghost use Rattle.front_files.specs.Verdicts.{FileVerdict, Accepts, Refuses};
+ghost use Rattle.front_files.specs.Exact.{IsExactVerdict};
+ghost use Rattle.front_files.specs.Verdicts.{FileVerdict, Verdict, Accepts, Refuses};
 ghost use Rattle.front_files.specs.WithoutMacros.{VerdictWithoutMacros, AcceptsWithoutMacros, RefusesWithoutMacros};
 ghost use Rattle.front_laws.specs.Renaming.{Renames, file_verdict_by};
 ghost use Rattle.front_laws.specs.SameMeanings.{MeansTheSame};
 ghost use Rattle.front_laws.specs.SamePrograms.{SameProgram};
 
+use front_expansions::laws::law_one_expansion;
 use front_files::laws::{law_names_apart, law_one_verdict as law_one_verdict_of_a_table};
 use lang_renamed::laws::{law_meaning, law_renamed_runs, law_same_runs};
 
@@ -36,6 +38,21 @@ pub fn law_one_verdict()
 {
     law_names_apart();
     law_one_verdict_of_a_table();
+}
+
+/// Two verdicts on a file under one table of names are one, macros defined or not, and so are two whose tables one
+/// table of names begins with: verdicts that are not given for want of words or of instructions of an expander.
+pub fn law_one_verdict_of_table()
+    ensures one_table { (names : List (List ℕ)) (prelude text : List ℕ) (mode : mode_of) (v w : FileVerdict) →
+        IsTable names → IsExactVerdict v → IsExactVerdict w →
+        Verdict names prelude text mode v → Verdict names prelude text mode w → v ≡ w }
+    ensures fronts { (names a b : List (List ℕ)) (prelude text : List ℕ) (mode : mode_of) (v w : FileVerdict) →
+        IsTable names → Extends a names → Extends b names → IsExactVerdict v → IsExactVerdict w →
+        Verdict a prelude text mode v → Verdict b prelude text mode w → v ≡ w }
+{
+    law_names_apart();
+    law_one_verdict_of_a_table();
+    law_one_expansion();
 }
 
 /// Two programs that a text is accepted as are the same, their names taken by their texts, where it defines no macro.

@@ -6,6 +6,7 @@ ghost use Rattle.base.specs.declared.place.Place.{Place as place};
 ghost use Rattle.base.specs.declared.reason.Reason.{Reason as reason};
 ghost use Rattle.base.specs.declared.reason.Refusal.{Refusal as refusal};
 ghost use Rattle.base.specs.Data.{Item};
+ghost use Rattle.base.specs.Names.{IsTable, Extends};
 ghost use Rattle.lang_meaning.specs.declared.program.ProgramRows.{ProgramRows as program_rows};
 ghost use Rattle.front_profile.specs.declared.tables.Tables.{Tables};
 ghost use Rattle.front_profile.specs.Nodes.{StaticContext, refused as at_offence, ended};
@@ -16,10 +17,12 @@ ghost use Rattle.front_reader.specs.Reads.{ReadsNext};
 ghost use Rattle.front_reader.specs.Stops.{Stops};
 ghost use Rattle.front_files.specs.declared.mode.Mode.{Mode as mode_of};
 ghost use Rattle.front_files.specs.declared.mode.Mode.TheVariants.{Run};
-ghost use Rattle.front_files.specs.Verdicts.{one_refused, BehindPrelude, IsOfFile, Refuses};
+ghost use Rattle.front_files.specs.Exact.{IsExactRefusal};
+ghost use Rattle.front_files.specs.Verdicts.{one_refused, BehindPrelude, IsOfFile, Refuses, accepted, refused, Verdict};
 ghost use Rattle.front_files.specs.WithoutMacros.{AcceptsWithoutMacros};
 ghost use Rattle.front_laws.specs.Places.{InText, IsPlaceIn};
 
+use front_expansions::laws::law_one_expansion;
 use front_files::laws::{law_names_apart, law_prelude};
 
 /// The first offence of a form stands at the place of the form, or at that of a datum inside it, wherever the form
@@ -59,4 +62,16 @@ pub fn law_refusals_in_text()
 {
     law_names_apart();
     law_prelude();
+}
+
+/// So it is where the prelude defines macros, under tables that one table of names begins with: of refusals that are
+/// not for want of words or of instructions of an expander.
+pub fn law_refusals_of_table_in_text()
+    ensures { (names a b : List (List ℕ)) (prelude text : List ℕ) (mode : mode_of) (program : program_rows)
+        (r : refusal) → IsTable names → Extends a names → Extends b names → IsExactRefusal r →
+        Verdict a prelude [] Run (accepted program) → Verdict b prelude text mode (refused r) → InText r.place }
+{
+    law_names_apart();
+    law_prelude();
+    law_one_expansion();
 }
