@@ -1,8 +1,8 @@
 -- **What is wrong with a form of a program**, so that each evaluation of it signals a condition: a call that finds no function (ISO/IEC
 -- 13816:2007, 12.7), or one that takes other numbers of arguments, and a global variable that the program never defines (14.2).
-use Rattle.std.specs.Prelude.{ℕ, zero, suc, ◌+◌, ◌==◌, Bool, not, List, length, Option, Some, None, is_some, if◌then◌else◌, nat_le, slice_get, flat_map, filter_map}
+use Rattle.std.specs.Prelude.{ℕ, ◌==◌, Bool, List, length, Option, Some, None, is_some, if◌then◌else◌, nat_le, slice_get, flat_map, filter_map}
 use Rattle.base.specs.declared.datum.Name.{Name}
-use Rattle.lang_meaning.specs.Form.{Form, call, global, set_global, def_global, Forms, no_form, form_and}
+use Rattle.lang_meaning.specs.Form.{Form, call, global, set_global, def_global}
 use Rattle.lang_meaning.specs.Inside.{inside_form}
 use Rattle.lang_meaning.specs.Literals.{function_row}
 use Rattle.lang_meaning.specs.Lookup.{text, is_in}

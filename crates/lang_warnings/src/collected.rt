@@ -20,11 +20,7 @@ pub(crate) fn add_program(known: &Known<'_>, list: &mut Vec<Warning>) -> Result<
     add_procedures(known, &known.program.procedures, list)
 }
 
-fn add_main(
-    known: &Known<'_>,
-    main: &CoreList,
-    list: &mut Vec<Warning>,
-) -> Result<(), NoMemory>
+fn add_main(known: &Known<'_>, main: &CoreList, list: &mut Vec<Warning>) -> Result<(), NoMemory>
     requires { IsKnown known.now }
     ensures { OnOk result (list.new.items ≡ list.old.items
         ++ flat_map (warnings_in known.now.names.now known.now.program.now) main.now) }
@@ -53,11 +49,7 @@ fn add_procedures(
 // Those of a form, and of all forms inside it.
 #[cycle(form)]
 #[tactic(auto, using(lang_meaning::specs::bridge::Smaller::outer_is_smaller, lang_meaning::specs::bridge::Smaller::inner_is_smaller))]
-fn add_form(
-    known: &Known<'_>,
-    form: &Core,
-    list: &mut Vec<Warning>,
-) -> Result<(), NoMemory>
+fn add_form(known: &Known<'_>, form: &Core, list: &mut Vec<Warning>) -> Result<(), NoMemory>
     requires { IsKnown known.now }
     ensures { OnOk result (list.new.items ≡ list.old.items
         ++ warnings_in known.now.names.now known.now.program.now form.now) }
@@ -84,11 +76,7 @@ fn add_forms(
 }
 
 // That of the form itself, where there is one.
-fn add_itself(
-    known: &Known<'_>,
-    form: &Core,
-    list: &mut Vec<Warning>,
-) -> Result<(), NoMemory>
+fn add_itself(known: &Known<'_>, form: &Core, list: &mut Vec<Warning>) -> Result<(), NoMemory>
     requires { IsKnown known.now }
     ensures { OnOk result (list.new.items ≡ list.old.items
         ++ option_to_list (warned known.now.names.now known.now.program.now form.now)) }

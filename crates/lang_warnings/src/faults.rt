@@ -105,7 +105,11 @@ fn generic_fault(given: usize, generic: &GenericRow) -> Option<Fault>
 fn count_fault(given: usize, required: usize, more: bool) -> Option<Fault>
     ensures { result ≡ count_fault given required more }
 {
-    let fits = if more { required <= given } else { given == required };
+    let fits = if more {
+        required <= given
+    } else {
+        given == required
+    };
     if fits {
         None
     } else {

@@ -78,6 +78,7 @@ AnswersOf answer.FileFault Runs Large Bad ShelfRises SourceRises Rises Same = Sh
 AnswersOf answer.NoMemory Runs Large Bad ShelfRises SourceRises Rises Same = Same
 AnswersOf (answer.Unhandled class site) Runs Large Bad ShelfRises SourceRises Rises Same = ⊥
 AnswersOf answer.Usage Runs Large Bad ShelfRises SourceRises Rises Same = ⊥
+AnswersOf (answer.Checked warnings) Runs Large Bad ShelfRises SourceRises Rises Same = ⊥
 AnswersOf (answer.Refused r text) Runs Large Bad ShelfRises SourceRises Rises Same = ⊥
 AnswersOf answer.Spent Runs Large Bad ShelfRises SourceRises Rises Same = ⊥
 

@@ -1,3 +1,4 @@
 pub mod Sentences
 pub mod Excerpts
+pub mod Warned
 pub mod Lines

@@ -1,5 +1,5 @@
 -- The lines that statuses write to the error sink, and those that `check` and `make` write to the output.
-use Rattle.std.specs.Prelude.{ℕ, ◌==◌, ◌&&◌, if◌then◌else◌, List, [], ◌∷◌, ◌++◌, Option, Some, None, codes}
+use Rattle.std.specs.Prelude.{ℕ, Bool, true, false, ◌==◌, ◌&&◌, if◌then◌else◌, List, [], ◌∷◌, ◌++◌, Option, Some, None, flat_map, codes}
 use Rattle.std.specs.Fmt.{decimal}
 use Rattle.base.specs.Reason.{number_of as number_of_reason, text_of as name_of_reason}
 use Rattle.base.specs.declared.place.Place.{Place}
@@ -13,6 +13,8 @@ use Rattle.rv_image_file.specs.Reasons.{number_of as number_of_bad_image, text_o
 use Rattle.rv_image_file.specs.declared.faults.BadImage.{BadImage as ImageFault}
 use Rattle.top_lines.specs.Sentences.{sentence_of}
 use Rattle.top_lines.specs.Excerpts.{excerpt}
+use Rattle.top_lines.specs.Warned.{warned}
+use Rattle.top_lines.specs.declared.status.WarningLine.{WarningLine}
 use Rattle.top_lines.specs.declared.status.Status.{Status}
 use Rattle.top_lines.specs.declared.status.Status.TheVariants.{Done, Unhandled, Usage, Refused, ArenaFull, Budget, FileFault, ReadFault, WriteFault, NoMemory, BadImage, Trap}
 use Rattle.top_lines.specs.declared.status.CommandAnswer.{CommandAnswer}
@@ -40,6 +42,13 @@ site_in file p = if p.line == 0 && p.column == 0 then file else place_in file p
 -- `FILE:LINE:COLUMN: unhandled CLASS`, or `FILE: unhandled CLASS`
 abbrev pub unhandled_line : (file class : List ℕ) → Place → List ℕ
 unhandled_line file class site = line ((site_in file site ++ codes ": unhandled ") ++ class)
+
+-- `FILE:LINE:COLUMN: warning: TEXT`, and such lines one after another
+abbrev pub warning_line : (file : List ℕ) → WarningLine → List ℕ
+warning_line file w = line ((place_in file w.place ++ codes ": warning: ") ++ warned w.name w.fault)
+
+abbrev pub warning_lines : (file : List ℕ) → List WarningLine → List ℕ
+warning_lines file ws = flat_map (warning_line file) ws
 
 -- ` at LINE:COLUMN` of the place of a site, where there is one
 abbrev pub site_text : Option Place → List ℕ
@@ -103,9 +112,10 @@ read_fault_line = line (codes "read fault")
 abbrev pub no_memory_line : List ℕ
 no_memory_line = line (codes "no memory")
 
--- the line of an answer about a text that is called so; a refusal has four
+-- the line of an answer about a text that is called so; a refusal has four, and a file that is a program one for each warning
 abbrev pub line_of : (file : List ℕ) → CommandAnswer → List ℕ
 line_of file answer.Done = []
+line_of file (answer.Checked warnings) = warning_lines file warnings
 line_of file (answer.Unhandled class site) = unhandled_line file class site
 line_of file answer.Usage = usage_line
 line_of file (answer.Refused r text) = refusal_lines file text r
@@ -122,6 +132,7 @@ line_of file (answer.Trap kind address) = trap_line kind address
 
 abbrev pub status_of : CommandAnswer → Status
 status_of answer.Done = Done
+status_of (answer.Checked warnings) = Done
 status_of (answer.Unhandled class site) = Unhandled
 status_of answer.Usage = Usage
 status_of (answer.Refused r text) = Refused
@@ -149,6 +160,11 @@ number_of WriteFault = 8
 number_of NoMemory = 9
 number_of BadImage = 10
 number_of Trap = 11
+
+-- the answer of a file that is a program
+abbrev pub is_checked : CommandAnswer → Bool
+is_checked (answer.Checked warnings) = true
+is_checked a = false
 
 -- the answer of a text that is no program
 abbrev pub answer_of_stop : (text : List ℕ) → Stop → CommandAnswer

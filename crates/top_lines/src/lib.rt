@@ -5,6 +5,7 @@ mod excerpts;
 pub mod lines;
 mod sentences;
 pub mod status;
+mod warnings;
 
 pub use lines::{end_with, write_counts};
-pub use status::{CommandAnswer, Status};
+pub use status::{CommandAnswer, Status, WarningLine, WarningLines};

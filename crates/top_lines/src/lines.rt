@@ -11,11 +11,13 @@ ghost use Rattle.top_lines.specs.declared.status.Status.TheVariants.{WriteFault}
 use crate::excerpts::write_excerpt;
 use crate::sentences::sentence_of;
 use crate::status::{CommandAnswer, Status};
+use crate::warnings::write_warnings;
 use base::{Failed, Place, Reason, Refusal, Sink, write_all};
 use rv_image_file::BadImage;
 use rv_machine::TrapKind;
 
-/// Writes the line of an answer about a text that is called so, whose status is then given; a refusal has four lines.
+/// Writes the line of an answer about a text that is called so, whose status is then given; a refusal has four lines, and a
+/// file that is a program one for each warning.
 /// `WriteFault` where the line can't be written whole.
 pub fn end_with<E: Sink>(err: &mut E, file: &[u8], answer: CommandAnswer) -> Status
     ensures written { result ≢ WriteFault → result ≡ status_of answer }
@@ -54,6 +56,7 @@ fn write_line<E: Sink>(err: &mut E, file: &[u8], answer: &CommandAnswer) -> Resu
 {
     match answer {
         CommandAnswer::Done | CommandAnswer::WriteFault => Ok(()),
+        CommandAnswer::Checked(warnings) => write_warnings(err, file, warnings.as_slice()),
         CommandAnswer::Unhandled { class, site } => {
             write_unhandled(err, file, class.as_slice(), *site)
         }
@@ -105,8 +108,8 @@ fn write_site_in<E: Sink>(err: &mut E, file: &[u8], site: Place) -> Result<(), F
     write_place_in(err, file, site)
 }
 
-// `FILE:LINE:COLUMN`
-fn write_place_in<E: Sink>(err: &mut E, file: &[u8], place: Place) -> Result<(), Failed>
+/// `FILE:LINE:COLUMN`
+pub(crate) fn write_place_in<E: Sink>(err: &mut E, file: &[u8], place: Place) -> Result<(), Failed>
     ensures given { OnOk result (WasGiven (E.given err.old) (place_in file.now place) (E.given err.new)) }
     ensures fault { OnErr result (Rose (E.faults err.old) (E.faults err.new)) }
     ensures count { E.faults err.old ≤ E.faults err.new }
@@ -284,8 +287,8 @@ fn write_labelled<O: Sink>(out: &mut O, label: &[u8], number: u64) -> Result<(),
     write_number(out, number)
 }
 
-// The number in decimal digits.
-fn write_number<E: Sink>(err: &mut E, number: u64) -> Result<(), Failed>
+/// The number in decimal digits.
+pub(crate) fn write_number<E: Sink>(err: &mut E, number: u64) -> Result<(), Failed>
     ensures given { OnOk result (WasGiven (E.given err.old) (decimal number) (E.given err.new)) }
     ensures cut { OnErr result (WasGivenFront (E.given err.old) (decimal number) (E.given err.new)) }
     ensures fault { OnErr result (Rose (E.faults err.old) (E.faults err.new)) }

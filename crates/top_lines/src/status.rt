@@ -1,9 +1,10 @@
 // The statuses that the program ends with, and what it has to tell of them.
 
 ghost use Rattle.std.specs.Prelude.{◌≡◌};
-ghost use Rattle.top_lines.specs.Lines.{answer_of_stop, number_of, status_of};
+ghost use Rattle.top_lines.specs.Lines.{answer_of_stop, is_checked, number_of, status_of};
 
-use base::{Bytes, Place, Refusal, Stop};
+use base::{Bytes, ItemList, Place, Refusal, Stop};
+use lang_warnings::Fault;
 use rv_machine::TrapKind;
 
 /// How a call of the program ended.
@@ -59,15 +60,28 @@ impl Status {
     }
 }
 
+/// What a form of the file is warned of: its place, the name that it calls, reads or sets, and what is wrong with it.
+#[derive(Drop)]
+pub struct WarningLine {
+    pub place: Place,
+    pub name: Bytes,
+    pub fault: Fault,
+}
+
+/// What the forms of a file are warned of.
+pub type WarningLines = ItemList<WarningLine>;
+
 /// A status with what its line tells: the name of the class of a condition, and the place of the form that
 /// signalled it, or 0:0; why and where the file is refused, and its text; how many words were asked for, and how many were
 /// left; how many instructions were executed, or how many levels there were. `Spent` is the status `Budget`
 /// of an evaluation in which as many forms began as may begin. `UnhandledClass` is the status `Unhandled` of an
 /// image of which no program is known: the number of the class, and the place of the site where the file has it.
-/// Of a trap the kind is told and its address.
+/// Of a trap the kind is told and its address. `Checked` is the status `Done` of a file that is a program, with what its
+/// forms are warned of.
 #[derive(Drop)]
 pub enum CommandAnswer {
     Done,
+    Checked(WarningLines),
     Unhandled { class: Bytes, site: Place },
     UnhandledClass { class: u32, site: Option<Place> },
     Usage,
@@ -97,12 +111,22 @@ impl CommandAnswer {
         }
     }
 
+    /// Whether it is that of a file that is a program.
+    pub fn is_checked(&self) -> bool
+        ensures { result ≡ is_checked self.now }
+    {
+        match self {
+            CommandAnswer::Checked(_) => true,
+            _ => false,
+        }
+    }
+
     /// The status alone.
     pub fn status(&self) -> Status
         ensures { result ≡ status_of self.now }
     {
         match self {
-            CommandAnswer::Done => Status::Done,
+            CommandAnswer::Done | CommandAnswer::Checked(_) => Status::Done,
             CommandAnswer::Unhandled { .. } | CommandAnswer::UnhandledClass { .. } => {
                 Status::Unhandled
             }

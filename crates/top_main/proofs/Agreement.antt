@@ -1,11 +1,10 @@
 -- A run that has stopped and a meaning that has ended are the same end, since the meaning ends alike with more levels.
-use Rattle.std.proofs.Common.{◌≡◌, ◌≢◌, ℕ, ◌+◌, ◌≤◌, List, refl, sym, ap, subst, ◌∙◌, ◌⊎◌, inl, inr, arith}
-use Rattle.lang_meaning.specs.Laws.{LawOfLevels, IsSettled}
+use Rattle.std.proofs.Common.{◌≡◌, ◌+◌, sym, subst, ◌∙◌, ◌⊎◌, inl, inr, arith}
+use Rattle.lang_meaning.specs.Laws.{LawOfLevels}
 use Rattle.lang_meaning.specs.declared.program.ProgramRows.{ProgramRows}
 use Rattle.lang_meaning.specs.Meaning.{Meant, End, ended_value, ended_unhandled, ended_full, ended_more, meaning}
 use Rattle.lang_meaning.specs.State.{unlimited}
-use Rattle.rv_machine.specs.declared.ending.Ending.{Ending}
-use Rattle.rv_machine.specs.declared.ending.Ending.TheVariants.{Halt, Unhandled, Full, Budget, Trap, ReadFault, WriteFault}
+use Rattle.rv_machine.specs.declared.ending.Ending.TheVariants.{Budget}
 use Rattle.rv_machine.specs.Run.{Ended}
 use Rattle.top_exec.specs.Runs.{the_run}
 use Rattle.top_main.specs.Images.{Halts, Signals, HasNoRoom}

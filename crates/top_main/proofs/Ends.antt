@@ -1,5 +1,5 @@
 -- How the status that is answered comes from the answer to the words.
-use Rattle.std.proofs.Common.{◌≡◌, ◌≢◌, ℕ, List, [], ◌∷◌, ◌++◌, refl, sym, ap, subst, ◌∙◌, ◌⊎◌, inl, inr, Some, None}
+use Rattle.std.proofs.Common.{◌≡◌, ◌≢◌, ℕ, List, [], ◌∷◌, ◌++◌, refl, sym, ap, subst, ◌∙◌, ◌⊎◌, inl, inr, Some, None, false}
 use Rattle.std.specs.Prelude.{Option, ⊤, length, codes}
 use Rattle.base.specs.Given.{WasGiven}
 use Rattle.base.specs.declared.place.Place.{Place}
@@ -17,11 +17,11 @@ use Rattle.top_lines.specs.declared.status.Status.{Status}
 use Rattle.top_lines.specs.declared.status.Status.TheVariants.{Done, Unhandled, Usage, Refused, ArenaFull, Budget, FileFault, ReadFault, WriteFault, NoMemory, BadImage, Trap}
 use Rattle.top_lines.specs.declared.status.CommandAnswer.{CommandAnswer}
 use Rattle.top_lines.specs.declared.status.CommandAnswer.TheVariants as answer
-use Rattle.top_lines.specs.Lines.{line_of, status_of, unhandled_line, budget_line, refusal_lines, arena_full_line, spent_line, file_fault_line, read_fault_line, no_memory_line, bad_image_line, labelled, site_text}
+use Rattle.top_lines.specs.Lines.{is_checked as is_checked_answer, line_of, status_of, unhandled_line, budget_line, refusal_lines, arena_full_line, spent_line, file_fault_line, read_fault_line, no_memory_line, bad_image_line, labelled, site_text}
 use Rattle.top_exec.specs.Runs.{Sent}
 use Rattle.top_exec.specs.Executes.{ExecAnswers, Executes}
-use Rattle.top_main.specs.Answers.{WriteAnswers, FileAnswers, was_ended, was_plain, was_check, was_build, was_exec, WordsAnswers, was_usage, was_untold, was_asked}
-use Rattle.top_main.specs.Theorem.{FileEnds, HasLine, IsEnded, IsUsage, IsDone, IsWritten, IsUnhandled, IsArenaFull, IsTooLarge, IsBudget, IsSpent, IsRefused, IsReadFault, IsCutOff, IsWrittenCutOff, IsUnnamed, IsBroken, IsUntold, IsExecuted, IsExecutedSo, IsExecutedUntold, IsLargeImage, IsBadImage, RunsPrograms, ReadsNothing, KeepsNothing, MakesText, name_of, name_in}
+use Rattle.top_main.specs.Answers.{WriteAnswers, CheckAnswers, FileAnswers, was_ended, was_plain, was_check, was_build, was_exec, WordsAnswers, was_usage, was_untold, was_asked}
+use Rattle.top_main.specs.Theorem.{Offends, FileBuilds, Writes, FileEnds, HasLine, IsEnded, IsUsage, IsDone, IsWritten, IsUnhandled, IsArenaFull, IsTooLarge, IsBudget, IsSpent, IsRefused, IsReadFault, IsCutOff, IsWrittenCutOff, IsUnnamed, IsBroken, IsUntold, IsExecuted, IsExecutedSo, IsExecutedUntold, IsLargeImage, IsBadImage, RunsPrograms, ReadsNothing, KeepsNothing, MakesText, name_of, name_in}
 
 -- a status is a write fault or that of the answer
 settled : (r s : Status) → (r ≢ WriteFault → r ≡ s) → (r ≡ s) ⊎ (r ≡ WriteFault)
@@ -64,16 +64,20 @@ abbrev Ended : View → CommandAnswer → Request → Type 0
 Ended v a c = FileAnswers a c.action (v.holds c.file) v.kept c.arena c.steps v.left v.left' v.sent v.ShelfRises v.SourceRises v.Rises (v.Same × v.InputSame)
 
 abbrev Written : View → CommandAnswer → Request → Type 0
-Written v a c = WriteAnswers a c.action (v.holds c.file) v.kept v.sent.before v.sent.after v.ShelfRises v.Rises v.Same
+Written v a c = WriteAnswers a (v.holds c.file) v.kept v.sent.before v.sent.after v.ShelfRises v.Rises v.Same
+
+abbrev CheckedSo : View → CommandAnswer → Request → Type 0
+CheckedSo v a c = CheckAnswers a (v.holds c.file) v.ShelfRises
 
 abbrev Executed : View → CommandAnswer → Request → Type 0
 Executed v a c = ExecAnswers a (v.holds c.file) c.arena c.steps v.left v.left' v.sent v.ShelfRises v.SourceRises v.Rises (v.Same × v.InputSame)
 
--- the answer to the words, where a run and an evaluation are told alike, and so are a check and a build
+-- the answer to the words, where a run and an evaluation are told alike
 data Heard (v : View) (a : CommandAnswer) : Type 0 where
   is_usage : a ≡ answer.Usage → asked v.words ≡ None → v.Same × v.InputSame → Heard v a
   is_untold : a ≡ answer.NoMemory → v.Same × v.InputSame → Heard v a
-  is_written : (c : Request) → asked v.words ≡ Some c → v.name ≡ name_of c → v.InputSame → Written v a c → Heard v a
+  is_checked : (c : Request) → asked v.words ≡ Some c → v.name ≡ name_of c → c.action ≡ Check → v.kept ≡ None → v.InputSame → v.Same → CheckedSo v a c → Heard v a
+  is_written : (c : Request) → asked v.words ≡ Some c → v.name ≡ name_of c → c.action ≡ Build → v.InputSame → Written v a c → Heard v a
   is_ended : (c : Request) → asked v.words ≡ Some c → v.name ≡ name_of c → Ended v a c → Heard v a
   is_executed : (c : Request) → asked v.words ≡ Some c → v.name ≡ name_of c → c.action ≡ Exec → v.kept ≡ None → Executed v a c → Heard v a
 
@@ -84,13 +88,14 @@ heard v a (was_asked c is named (was_ended r m h)) = is_ended c is named h
 heard v a (was_asked c is named (was_plain p k h)) =
     let F : Action → Option Image → Type 0 = λ x kept. FileAnswers a x (v.holds c.file) kept c.arena c.steps v.left v.left' v.sent v.ShelfRises v.SourceRises v.Rises (v.Same × v.InputSame) in
     is_ended c is named (subst (λ x. F x v.kept) (sym p) (subst (λ kept. F Plain kept) (sym k) h))
-heard v a (was_asked c is named (was_check p i k h)) =
-    let W : Action → Option Image → Type 0 = λ x kept. WriteAnswers a x (v.holds c.file) kept v.sent.before v.sent.after v.ShelfRises v.Rises v.Same in
-    is_written c is named i (subst (λ x. W x v.kept) (sym p) (subst (λ kept. W Check kept) (sym k) h))
-heard v a (was_asked c is named (was_build p i h)) =
-    let W : Action → Option Image → Type 0 = λ x kept. WriteAnswers a x (v.holds c.file) kept v.sent.before v.sent.after v.ShelfRises v.Rises v.Same in
-    is_written c is named i (subst (λ x. W x v.kept) (sym p) h)
+heard v a (was_asked c is named (was_check p i same k h)) = is_checked c is named p k i same h
+heard v a (was_asked c is named (was_build p i h)) = is_written c is named p i h
 heard v a (was_asked c is named (was_exec p k h)) = is_executed c is named p k h
+
+-- what a build has to write
+writes_so : (v : View) (c : Request) (bytes : List ℕ) → c.action ≡ Build → FileBuilds (v.holds c.file) v.kept bytes
+    → Writes c.action (name_of c) (v.holds c.file) v.kept bytes []
+writes_so v c bytes b h = subst (λ (x : Action). Writes x (name_of c) (v.holds c.file) v.kept bytes []) (sym b) (h, refl)
 
 -- a call whose program came to this end
 abbrev EndedSo : View → EvaluationEnd → Type 0
@@ -113,7 +118,8 @@ Wanting v = (v.Same × v.InputSame) ⊎ (IsUnnamed v.words v.holds v.kept v.left
 wanting : (v : View) → Heard v answer.NoMemory → Wanting v
 wanting v (is_usage e none same) = absurd (cc)
 wanting v (is_untold e same) = inl same
-wanting v (is_written c is named i h) = inl (h, i)
+wanting v (is_checked c is named b k i same h) = inl (same, i)
+wanting v (is_written c is named b i h) = inl (h, i)
 wanting v (is_ended c is named (inl same)) = inl same
 wanting v (is_ended c is named (inr (inl h))) = inr (inl (record { class = h.0; site = h.1.0; ended = ended v c (endings.Unhandled h.0 h.1.0) is h.1.1 }))
 wanting v (is_ended c is named (inr (inr h))) = inr (inr (record { command = c; asked_for = is; is_plain = h.0; breaks = h.1 }))
@@ -152,14 +158,17 @@ module _ (v : View) (said said' : Option (List ℕ)) where
   done : Heard v answer.Done → Line [] → Says Done
   done (is_usage e none same) line = absurd (cc)
   done (is_untold e same) line = absurd (cc)
-  done (is_written c is named i h) line = inr (inl (record { command = c; asked_for = is; bytes = h.bytes; writes = h.are; printed = h.given_so; line = line }))
+  done (is_checked c is named b k i same h) line = absurd h
+  done (is_written c is named b i h) line =
+      inr (inl (record { command = c; asked_for = is; bytes = h.bytes; told = []; writes = writes_so v c h.bytes b h.are; printed = h.given_so; line = line }))
   done (is_ended c is named h) line = inl (record { ended = ended v c endings.Value is h; line = line })
   done (is_executed c is named x k h) line = inr (inr (image_says answer.Done (executed v c answer.Done is x k h) named line))
 
   unhandled : (class : List ℕ) (site : Place) → Heard v (answer.Unhandled class site) → Line (unhandled_line v.name class site) → Says Unhandled
   unhandled class site (is_usage e none same) line = absurd (cc)
   unhandled class site (is_untold e same) line = absurd (cc)
-  unhandled class site (is_written c is named i h) line = absurd h
+  unhandled class site (is_checked c is named b k i same h) line = absurd h
+  unhandled class site (is_written c is named b i h) line = absurd h
   unhandled class site (is_ended c is named h) line =
       let P : List ℕ → List ℕ → Type 0 = λ name class. WasGiven said (unhandled_line name class site) said' in
       inl (record {
@@ -173,14 +182,16 @@ module _ (v : View) (said said' : Option (List ℕ)) where
   unhandled_class : (class : ℕ) (site : Option Place) → Heard v (answer.UnhandledClass class site) → Line (line_of v.name (answer.UnhandledClass class site)) → Says Unhandled
   unhandled_class class site (is_usage e none same) line = absurd (cc)
   unhandled_class class site (is_untold e same) line = absurd (cc)
-  unhandled_class class site (is_written c is named i h) line = absurd h
+  unhandled_class class site (is_checked c is named b k i same h) line = absurd h
+  unhandled_class class site (is_written c is named b i h) line = absurd h
   unhandled_class class site (is_ended c is named h) line = absurd h
   unhandled_class class site (is_executed c is named x k h) line = inr (image_says (answer.UnhandledClass class site) (executed v c (answer.UnhandledClass class site) is x k h) named line)
 
   usage : Heard v answer.Usage → Line (line_of v.name answer.Usage) → Says Usage
   usage (is_usage e none same) line = (record { asked_for = none; line = line }, same.1)
   usage (is_untold e same) line = absurd (cc)
-  usage (is_written c is named i h) line = absurd h
+  usage (is_checked c is named b k i same h) line = absurd h
+  usage (is_written c is named b i h) line = absurd h
   usage (is_ended c is named h) line = absurd h
   usage (is_executed c is named x k h) line = absurd h
 
@@ -190,8 +201,10 @@ module _ (v : View) (said said' : Option (List ℕ)) where
   refused : (r : Refusal) (text : List ℕ) → Heard v (answer.Refused r text) → Line (refusal_lines v.name text r) → Says Refused
   refused r text (is_usage e none same) line = absurd (cc)
   refused r text (is_untold e same) line = absurd (cc)
-  refused r text (is_written c is named i h) line =
-      (record { command = c; asked_for = is; refusal = r; text = text; offends = h.0; line = subst (refused_so r text) named line }, h.1.0, i, h.1.1)
+  refused r text (is_checked c is named b k i same h) line =
+      (record { command = c; asked_for = is; refusal = r; text = text; offends = subst (λ (x : Action). Offends x (v.holds c.file) r text) (sym b) h; line = subst (refused_so r text) named line }, same, i, k)
+  refused r text (is_written c is named b i h) line =
+      (record { command = c; asked_for = is; refusal = r; text = text; offends = subst (λ (x : Action). Offends x (v.holds c.file) r text) (sym b) h.0; line = subst (refused_so r text) named line }, h.1.0, i, h.1.1)
   refused r text (is_ended c is named h) line =
       (record { command = c; asked_for = is; refusal = r; text = text; offends = h.0; line = subst (refused_so r text) named line }, h.1.0.0, h.1.0.1, h.1.1)
   refused r text (is_executed c is named x k h) line = absurd h
@@ -199,7 +212,8 @@ module _ (v : View) (said said' : Option (List ℕ)) where
   arena_full : (wanted room : ℕ) → Heard v (answer.ArenaFull wanted room) → Line (arena_full_line wanted room) → Says ArenaFull
   arena_full wanted room (is_usage e none same) line = absurd (cc)
   arena_full wanted room (is_untold e same) line = absurd (cc)
-  arena_full wanted room (is_written c is named i h) line = absurd h
+  arena_full wanted room (is_checked c is named b k i same h) line = absurd h
+  arena_full wanted room (is_written c is named b i h) line = absurd h
   arena_full wanted room (is_ended c is named (inl h)) line =
       inl (record { wanted = wanted; room = room; ended = ended v c (endings.Full wanted room) is h; line = line })
   arena_full wanted room (is_ended c is named (inr h)) line =
@@ -234,7 +248,8 @@ module _ (v : View) (said said' : Option (List ℕ)) where
   budget : (n : ℕ) → Heard v (answer.Budget n) → Line (budget_line n) → Says Budget
   budget n (is_usage e none same) line = absurd (cc)
   budget n (is_untold e same) line = absurd (cc)
-  budget n (is_written c is named i h) line = absurd h
+  budget n (is_checked c is named b k i same h) line = absurd h
+  budget n (is_written c is named b i h) line = absurd h
   budget n (is_ended c is named h) line =
       let P : ℕ → Type 0 = λ m. WasGiven said (budget_line m) said' in
       inl (record { ended = ended v c endings.More is h.1; line = subst P h.0 line })
@@ -243,28 +258,32 @@ module _ (v : View) (said said' : Option (List ℕ)) where
   spent : Heard v answer.Spent → Line spent_line → Says Budget
   spent (is_usage e none same) line = absurd (cc)
   spent (is_untold e same) line = absurd (cc)
-  spent (is_written c is named i h) line = absurd h
+  spent (is_checked c is named b k i same h) line = absurd h
+  spent (is_written c is named b i h) line = absurd h
   spent (is_ended c is named h) line = inr (inl (record { ended = ended v c endings.Spent is h; line = line }))
   spent (is_executed c is named x k h) line = absurd h
 
   file_fault : Heard v answer.FileFault → Line file_fault_line → Says FileFault
   file_fault (is_usage e none same) line = absurd (cc)
   file_fault (is_untold e same) line = absurd (cc)
-  file_fault (is_written c is named i h) line = (h.0, h.1.0, i, h.1.1, line)
+  file_fault (is_checked c is named b k i same h) line = (h, same, i, k, line)
+  file_fault (is_written c is named b i h) line = (h.0, h.1.0, i, h.1.1, line)
   file_fault (is_ended c is named h) line = (h.0, h.1.0.0, h.1.0.1, h.1.1, line)
   file_fault (is_executed c is named x k h) line = (h.0, h.1.0, h.1.1, k, line)
 
   read_fault : Heard v answer.ReadFault → Line read_fault_line → Says ReadFault
   read_fault (is_usage e none same) line = absurd (cc)
   read_fault (is_untold e same) line = absurd (cc)
-  read_fault (is_written c is named i h) line = absurd h
+  read_fault (is_checked c is named b k i same h) line = absurd h
+  read_fault (is_written c is named b i h) line = absurd h
   read_fault (is_ended c is named h) line = (h.0, inl (record { ended = ended v c endings.ReadFault is h.1; line = line }))
   read_fault (is_executed c is named x k h) line = (h.0, inr (image_says answer.ReadFault (executed v c answer.ReadFault is x k h.1) named line))
 
   bad_image : (r : ImageFault) → Heard v (answer.BadImage r) → Line (bad_image_line r) → Says BadImage
   bad_image r (is_usage e none same) line = absurd (cc)
   bad_image r (is_untold e same) line = absurd (cc)
-  bad_image r (is_written c is named i h) line = absurd h
+  bad_image r (is_checked c is named b k i same h) line = absurd h
+  bad_image r (is_written c is named b i h) line = absurd h
   bad_image r (is_ended c is named h) line = absurd h
   bad_image r (is_executed c is named x k h) line =
       (record { command = c; asked_for = is; is_exec = x; unkept = k; reason = r; bad = h.0; line = line }, h.1)
@@ -272,25 +291,27 @@ module _ (v : View) (said said' : Option (List ℕ)) where
   trap : (kind : TrapKind) (address : ℕ) → Heard v (answer.Trap kind address) → Line (line_of v.name (answer.Trap kind address)) → Says Trap
   trap kind address (is_usage e none same) line = absurd (cc)
   trap kind address (is_untold e same) line = absurd (cc)
-  trap kind address (is_written c is named i h) line = absurd h
+  trap kind address (is_checked c is named b k i same h) line = absurd h
+  trap kind address (is_written c is named b i h) line = absurd h
   trap kind address (is_ended c is named h) line = absurd h
   trap kind address (is_executed c is named x k h) line = image_says (answer.Trap kind address) (executed v c (answer.Trap kind address) is x k h) named line
 
-  says : (a : CommandAnswer) → Heard v a → Line (line_of v.name a) → Says (status_of a)
-  says answer.Done w line = done w line
-  says (answer.Unhandled class site) w line = unhandled class site w line
-  says answer.Usage w line = usage w line
-  says (answer.Refused x text) w line = refused x text w line
-  says (answer.ArenaFull wanted room) w line = arena_full wanted room w line
-  says (answer.Budget n) w line = budget n w line
-  says answer.Spent w line = spent w line
-  says answer.FileFault w line = file_fault w line
-  says answer.ReadFault w line = read_fault w line
-  says answer.WriteFault w line = tt
-  says answer.NoMemory w line = (wanting v w, line)
-  says (answer.UnhandledClass class site) w line = unhandled_class class site w line
-  says (answer.BadImage r) w line = bad_image r w line
-  says (answer.Trap kind address) w line = trap kind address w line
+  says : (a : CommandAnswer) → is_checked_answer a ≡ false → Heard v a → Line (line_of v.name a) → Says (status_of a)
+  says (answer.Checked lines) other w line = absurd (cc)
+  says answer.Done other w line = done w line
+  says (answer.Unhandled class site) other w line = unhandled class site w line
+  says answer.Usage other w line = usage w line
+  says (answer.Refused x text) other w line = refused x text w line
+  says (answer.ArenaFull wanted room) other w line = arena_full wanted room w line
+  says (answer.Budget n) other w line = budget n w line
+  says answer.Spent other w line = spent w line
+  says answer.FileFault other w line = file_fault w line
+  says answer.ReadFault other w line = read_fault w line
+  says answer.WriteFault other w line = tt
+  says answer.NoMemory other w line = (wanting v w, line)
+  says (answer.UnhandledClass class site) other w line = unhandled_class class site w line
+  says (answer.BadImage r) other w line = bad_image r w line
+  says (answer.Trap kind address) other w line = trap kind address w line
 
 -- what it says without its line
 module _ (v : View) where
@@ -311,7 +332,9 @@ module _ (v : View) where
   cut : Heard v answer.WriteFault → v.Rises × Cut
   cut (is_usage e none same) = absurd (cc)
   cut (is_untold e same) = absurd (cc)
-  cut (is_written c is named i h) = (h.0, inr (inl (record { command = c; asked_for = is; bytes = h.1.bytes; writes = h.1.are; printed = h.1.given_so })))
+  cut (is_checked c is named b k i same h) = absurd h
+  cut (is_written c is named b i h) =
+      (h.0, inr (inl (record { command = c; asked_for = is; bytes = h.1.bytes; told = []; writes = writes_so v c h.1.bytes b h.1.are; printed = h.1.given_so })))
   cut (is_ended c is named h) = (h.0, inl (record { ended = ended v c endings.WriteFault is h.1 }))
   cut (is_executed c is named x k h) = (h.0, inr (inr (executed v c answer.WriteFault is x k h.1)))
 
@@ -319,28 +342,32 @@ module _ (v : View) where
   usage_same : Heard v answer.Usage → v.Same × v.InputSame
   usage_same (is_usage e none same) = same
   usage_same (is_untold e same) = same
-  usage_same (is_written c is named i h) = absurd h
+  usage_same (is_checked c is named b k i same h) = absurd h
+  usage_same (is_written c is named b i h) = absurd h
   usage_same (is_ended c is named h) = absurd h
   usage_same (is_executed c is named x k h) = absurd h
 
   refused_same : (r : Refusal) (text : List ℕ) → Heard v (answer.Refused r text) → v.Same × v.InputSame
   refused_same r text (is_usage e none same) = same
   refused_same r text (is_untold e same) = same
-  refused_same r text (is_written c is named i h) = (h.1.0, i)
+  refused_same r text (is_checked c is named b k i same h) = (same, i)
+  refused_same r text (is_written c is named b i h) = (h.1.0, i)
   refused_same r text (is_ended c is named h) = h.1.0
   refused_same r text (is_executed c is named x k h) = absurd h
 
   file_fault_same : Heard v answer.FileFault → v.Same × v.InputSame
   file_fault_same (is_usage e none same) = same
   file_fault_same (is_untold e same) = same
-  file_fault_same (is_written c is named i h) = (h.1.0, i)
+  file_fault_same (is_checked c is named b k i same h) = (same, i)
+  file_fault_same (is_written c is named b i h) = (h.1.0, i)
   file_fault_same (is_ended c is named h) = h.1.0
   file_fault_same (is_executed c is named x k h) = h.1
 
   bad_image_same : (r : ImageFault) → Heard v (answer.BadImage r) → v.Same × v.InputSame
   bad_image_same r (is_usage e none same) = same
   bad_image_same r (is_untold e same) = same
-  bad_image_same r (is_written c is named i h) = absurd h
+  bad_image_same r (is_checked c is named b k i same h) = absurd h
+  bad_image_same r (is_written c is named b i h) = absurd h
   bad_image_same r (is_ended c is named h) = absurd h
   bad_image_same r (is_executed c is named x k h) = h.1
 
@@ -352,7 +379,8 @@ module _ (v : View) where
   unhandled_untold : (ErrRises : Type 0) (class : List ℕ) (site : Place) → ErrRises → Heard v (answer.Unhandled class site) → Faults ErrRises
   unhandled_untold ErrRises class site f (is_usage e none same) = inl (f, same)
   unhandled_untold ErrRises class site f (is_untold e same) = inl (f, same)
-  unhandled_untold ErrRises class site f (is_written c is named i h) = absurd h
+  unhandled_untold ErrRises class site f (is_checked c is named b k i same h) = absurd h
+  unhandled_untold ErrRises class site f (is_written c is named b i h) = absurd h
   unhandled_untold ErrRises class site f (is_ended c is named h) =
       inr (inr (f, untold (endings.Unhandled h.class site) tt (ended v c (endings.Unhandled h.class site) is h.ends)))
   unhandled_untold ErrRises class site f (is_executed c is named x k h) = absurd h
@@ -360,7 +388,8 @@ module _ (v : View) where
   class_untold : (ErrRises : Type 0) (class : ℕ) (site : Option Place) → ErrRises → Heard v (answer.UnhandledClass class site) → Faults ErrRises
   class_untold ErrRises class site f (is_usage e none same) = inl (f, same)
   class_untold ErrRises class site f (is_untold e same) = inl (f, same)
-  class_untold ErrRises class site f (is_written c is named i h) = absurd h
+  class_untold ErrRises class site f (is_checked c is named b k i same h) = absurd h
+  class_untold ErrRises class site f (is_written c is named b i h) = absurd h
   class_untold ErrRises class site f (is_ended c is named h) = absurd h
   class_untold ErrRises class site f (is_executed c is named x k h) =
       inr (inr (f, image_untold (answer.UnhandledClass class site) (λ name. line_some (labelled (codes "unhandled class ") class ++ site_text site)) (executed v c (answer.UnhandledClass class site) is x k h)))
@@ -368,7 +397,8 @@ module _ (v : View) where
   full_untold : (ErrRises : Type 0) (wanted room : ℕ) → ErrRises → Heard v (answer.ArenaFull wanted room) → Faults ErrRises
   full_untold ErrRises wanted room f (is_usage e none same) = inl (f, same)
   full_untold ErrRises wanted room f (is_untold e same) = inl (f, same)
-  full_untold ErrRises wanted room f (is_written c is named i h) = absurd h
+  full_untold ErrRises wanted room f (is_checked c is named b k i same h) = absurd h
+  full_untold ErrRises wanted room f (is_written c is named b i h) = absurd h
   full_untold ErrRises wanted room f (is_ended c is named (inl h)) =
       inr (inr (f, untold (endings.Full wanted room) tt (ended v c (endings.Full wanted room) is h)))
   full_untold ErrRises wanted room f (is_ended c is named (inr h)) = inl (f, h.1)
@@ -379,7 +409,8 @@ module _ (v : View) where
   budget_untold : (ErrRises : Type 0) (n : ℕ) → ErrRises → Heard v (answer.Budget n) → Faults ErrRises
   budget_untold ErrRises n f (is_usage e none same) = inl (f, same)
   budget_untold ErrRises n f (is_untold e same) = inl (f, same)
-  budget_untold ErrRises n f (is_written c is named i h) = absurd h
+  budget_untold ErrRises n f (is_checked c is named b k i same h) = absurd h
+  budget_untold ErrRises n f (is_written c is named b i h) = absurd h
   budget_untold ErrRises n f (is_ended c is named h) = inr (inr (f, untold endings.More tt (ended v c endings.More is h.1)))
   budget_untold ErrRises n f (is_executed c is named x k h) =
       inr (inr (f, image_untold (answer.Budget n) (λ name no. cc) (executed v c (answer.Budget n) is x k h)))
@@ -387,14 +418,16 @@ module _ (v : View) where
   spent_untold : (ErrRises : Type 0) → ErrRises → Heard v answer.Spent → Faults ErrRises
   spent_untold ErrRises f (is_usage e none same) = inl (f, same)
   spent_untold ErrRises f (is_untold e same) = inl (f, same)
-  spent_untold ErrRises f (is_written c is named i h) = absurd h
+  spent_untold ErrRises f (is_checked c is named b k i same h) = absurd h
+  spent_untold ErrRises f (is_written c is named b i h) = absurd h
   spent_untold ErrRises f (is_ended c is named h) = inr (inr (f, untold endings.Spent tt (ended v c endings.Spent is h)))
   spent_untold ErrRises f (is_executed c is named x k h) = absurd h
 
   read_fault_untold : (ErrRises : Type 0) → ErrRises → Heard v answer.ReadFault → Faults ErrRises
   read_fault_untold ErrRises f (is_usage e none same) = inl (f, same)
   read_fault_untold ErrRises f (is_untold e same) = inl (f, same)
-  read_fault_untold ErrRises f (is_written c is named i h) = absurd h
+  read_fault_untold ErrRises f (is_checked c is named b k i same h) = absurd h
+  read_fault_untold ErrRises f (is_written c is named b i h) = absurd h
   read_fault_untold ErrRises f (is_ended c is named h) = inr (inr (f, untold endings.ReadFault tt (ended v c endings.ReadFault is h.1)))
   read_fault_untold ErrRises f (is_executed c is named x k h) =
       inr (inr (f, image_untold answer.ReadFault (λ name no. cc) (executed v c answer.ReadFault is x k h.1)))
@@ -402,7 +435,8 @@ module _ (v : View) where
   trap_untold : (ErrRises : Type 0) (kind : TrapKind) (address : ℕ) → ErrRises → Heard v (answer.Trap kind address) → Faults ErrRises
   trap_untold ErrRises kind address f (is_usage e none same) = inl (f, same)
   trap_untold ErrRises kind address f (is_untold e same) = inl (f, same)
-  trap_untold ErrRises kind address f (is_written c is named i h) = absurd h
+  trap_untold ErrRises kind address f (is_checked c is named b k i same h) = absurd h
+  trap_untold ErrRises kind address f (is_written c is named b i h) = absurd h
   trap_untold ErrRises kind address f (is_ended c is named h) = absurd h
   trap_untold ErrRises kind address f (is_executed c is named x k h) =
       inr (inr (f, image_untold (answer.Trap kind address) (λ name. line_some (labelled (codes "trap ") (trap_number kind) ++ labelled (codes " ") address)) (executed v c (answer.Trap kind address) is x k h)))
@@ -412,24 +446,25 @@ module _ (v : View) where
   by_line ErrRises f (inr (inl h)) = inr (inr (f, untold (endings.Unhandled h.class h.site) tt h.ended))
   by_line ErrRises f (inr (inr b)) = inr (inr (f, inr (inl b)))
 
-  write_fault : (a : CommandAnswer) (r : Status) (ErrRises : Type 0) → Heard v a → r ≡ WriteFault → (r ≡ WriteFault → status_of a ≢ WriteFault → ErrRises) → (line_of v.name a ≡ [] → r ≡ status_of a) → Faults ErrRises
-  write_fault answer.Done r ErrRises w e fault quiet = absurd (done_is_none (sym (quiet refl) ∙ e))
+  write_fault : (a : CommandAnswer) (r : Status) (ErrRises : Type 0) → is_checked_answer a ≡ false → Heard v a → r ≡ WriteFault → (r ≡ WriteFault → status_of a ≢ WriteFault → ErrRises) → (line_of v.name a ≡ [] → r ≡ status_of a) → Faults ErrRises
+  write_fault (answer.Checked lines) r ErrRises other w e fault quiet = absurd (cc)
+  write_fault answer.Done r ErrRises other w e fault quiet = absurd (done_is_none (sym (quiet refl) ∙ e))
     where
       done_is_none : Done ≡ WriteFault → ⊥
       done_is_none h = cc
-  write_fault (answer.Unhandled class site) r ErrRises w e fault quiet = unhandled_untold ErrRises class site (fault e (λ h. cc)) w
-  write_fault answer.Usage r ErrRises w e fault quiet = inl (fault e (λ h. cc), usage_same w)
-  write_fault (answer.Refused x text) r ErrRises w e fault quiet = inl (fault e (λ h. cc), refused_same x text w)
-  write_fault (answer.ArenaFull wanted room) r ErrRises w e fault quiet = full_untold ErrRises wanted room (fault e (λ h. cc)) w
-  write_fault (answer.Budget n) r ErrRises w e fault quiet = budget_untold ErrRises n (fault e (λ h. cc)) w
-  write_fault answer.Spent r ErrRises w e fault quiet = spent_untold ErrRises (fault e (λ h. cc)) w
-  write_fault answer.FileFault r ErrRises w e fault quiet = inl (fault e (λ h. cc), file_fault_same w)
-  write_fault answer.ReadFault r ErrRises w e fault quiet = read_fault_untold ErrRises (fault e (λ h. cc)) w
-  write_fault answer.WriteFault r ErrRises w e fault quiet = inr (inl (cut w))
-  write_fault (answer.UnhandledClass class site) r ErrRises w e fault quiet = class_untold ErrRises class site (fault e (λ h. cc)) w
-  write_fault (answer.BadImage x) r ErrRises w e fault quiet = inl (fault e (λ h. cc), bad_image_same x w)
-  write_fault (answer.Trap kind address) r ErrRises w e fault quiet = trap_untold ErrRises kind address (fault e (λ h. cc)) w
-  write_fault answer.NoMemory r ErrRises w e fault quiet = by_line ErrRises (fault e (λ h. cc)) (wanting v w)
+  write_fault (answer.Unhandled class site) r ErrRises other w e fault quiet = unhandled_untold ErrRises class site (fault e (λ h. cc)) w
+  write_fault answer.Usage r ErrRises other w e fault quiet = inl (fault e (λ h. cc), usage_same w)
+  write_fault (answer.Refused x text) r ErrRises other w e fault quiet = inl (fault e (λ h. cc), refused_same x text w)
+  write_fault (answer.ArenaFull wanted room) r ErrRises other w e fault quiet = full_untold ErrRises wanted room (fault e (λ h. cc)) w
+  write_fault (answer.Budget n) r ErrRises other w e fault quiet = budget_untold ErrRises n (fault e (λ h. cc)) w
+  write_fault answer.Spent r ErrRises other w e fault quiet = spent_untold ErrRises (fault e (λ h. cc)) w
+  write_fault answer.FileFault r ErrRises other w e fault quiet = inl (fault e (λ h. cc), file_fault_same w)
+  write_fault answer.ReadFault r ErrRises other w e fault quiet = read_fault_untold ErrRises (fault e (λ h. cc)) w
+  write_fault answer.WriteFault r ErrRises other w e fault quiet = inr (inl (cut w))
+  write_fault (answer.UnhandledClass class site) r ErrRises other w e fault quiet = class_untold ErrRises class site (fault e (λ h. cc)) w
+  write_fault (answer.BadImage x) r ErrRises other w e fault quiet = inl (fault e (λ h. cc), bad_image_same x w)
+  write_fault (answer.Trap kind address) r ErrRises other w e fault quiet = trap_untold ErrRises kind address (fault e (λ h. cc)) w
+  write_fault answer.NoMemory r ErrRises other w e fault quiet = by_line ErrRises (fault e (λ h. cc)) (wanting v w)
 
   -- the line calls the text as the words do, where it calls it anything
   line_named : (a : CommandAnswer) → Told v a → line_of v.name a ≡ line_of (name_in (asked v.words)) a
@@ -482,7 +517,7 @@ module _ (v : View) where
     input_same a (was_untold e shelf same i k) h = i
     input_same a (was_asked c is named (was_ended r m o)) h = absurd (reads c.action r (never ReadsNothing c c.action is refl h))
     input_same a (was_asked c is named (was_plain p k o)) h = absurd (never ReadsNothing c Plain is p h)
-    input_same a (was_asked c is named (was_check p i k o)) h = i
+    input_same a (was_asked c is named (was_check p i same k o)) h = i
     input_same a (was_asked c is named (was_build p i o)) h = i
     input_same a (was_asked c is named (was_exec p k o)) h = absurd (never ReadsNothing c Exec is p h)
 
@@ -491,7 +526,7 @@ module _ (v : View) where
     unkept a (was_untold e shelf same i k) h = k
     unkept a (was_asked c is named (was_ended r m o)) h = absurd (keeps c.action r (never KeepsNothing c c.action is refl h))
     unkept a (was_asked c is named (was_plain p k o)) h = k
-    unkept a (was_asked c is named (was_check p i k o)) h = k
+    unkept a (was_asked c is named (was_check p i same k o)) h = k
     unkept a (was_asked c is named (was_build p i o)) h = absurd (never KeepsNothing c Build is p h)
     unkept a (was_asked c is named (was_exec p k o)) h = k
 
@@ -500,13 +535,14 @@ module _ (v : View) where
     shelf_same a (was_untold e shelf same i k) h = shelf
     shelf_same a (was_asked c is named (was_ended r m o)) h = m (never MakesText c c.action is refl h)
     shelf_same a (was_asked c is named (was_plain p k o)) h = absurd (never MakesText c Plain is p h)
-    shelf_same a (was_asked c is named (was_check p i k o)) h = absurd (never MakesText c Check is p h)
+    shelf_same a (was_asked c is named (was_check p i same k o)) h = absurd (never MakesText c Check is p h)
     shelf_same a (was_asked c is named (was_build p i o)) h = absurd (never MakesText c Build is p h)
     shelf_same a (was_asked c is named (was_exec p k o)) h = absurd (never MakesText c Exec is p h)
 
--- a call that answered a and ended with the status r, whose line was written
+-- a call that answered a, which is not that of a check, and ended with the status r, whose line was written
 pub record CallEnded (v : View) (ErrRises : Type 0) (said said' : Option (List ℕ)) (a : CommandAnswer) (r : Status) : Type 0 where
   pub told : WordsAnswers a v.name v.words v.holds v.kept v.left v.left' v.sent v.ShelfRises v.SourceRises v.Rises v.Same v.InputSame v.ShelfSame
+  pub unchecked : is_checked_answer a ≡ false
   pub written : r ≢ WriteFault → r ≡ status_of a
   pub line : r ≢ WriteFault → WasGiven said (line_of v.name a) said'
   pub fault : r ≡ WriteFault → status_of a ≢ WriteFault → ErrRises
@@ -517,7 +553,7 @@ module _ {v : View} {ErrRises : Type 0} {said said' : Option (List ℕ)} {a : Co
   ends : (t : Status) → r ≡ t → t ≢ WriteFault → Says v said said' t
   ends t e other =
       let no_fault : r ≢ WriteFault = λ h. other (sym e ∙ h) in
-      subst (Says v said said') (sym (c.written no_fault) ∙ e) (says v said said' a (heard v a c.told) (c.line no_fault))
+      subst (Says v said said') (sym (c.written no_fault) ∙ e) (says v said said' a c.unchecked (heard v a c.told) (c.line no_fault))
 
   pub ends_usage : r ≡ Usage → IsUsage v.words said said' × v.InputSame
   ends_usage e = ends Usage e (λ h. cc)
@@ -555,7 +591,7 @@ module _ {v : View} {ErrRises : Type 0} {said said' : Option (List ℕ)} {a : Co
 
   pub ends_write_fault : r ≡ WriteFault
       → (ErrRises × (v.Same × v.InputSame)) ⊎ ((v.Rises × (IsCutOff v.words v.holds v.kept v.left v.left' v.sent ⊎ (IsWrittenCutOff v.words v.holds v.kept v.sent ⊎ IsExecuted v.words v.holds v.kept v.left v.left' v.sent answer.WriteFault))) ⊎ (ErrRises × (IsUntold v.words v.holds v.kept v.left v.left' v.sent ⊎ (IsBroken v.words v.holds v.kept v.left v.left' v.sent ⊎ IsExecutedUntold v.words v.holds v.kept v.left v.left' v.sent))))
-  ends_write_fault e = write_fault v a r ErrRises (heard v a c.told) e c.fault c.quiet
+  ends_write_fault e = write_fault v a r ErrRises c.unchecked (heard v a c.told) e c.fault c.quiet
 
   pub ends_no_memory : r ≡ NoMemory → ((v.Same × v.InputSame) ⊎ (IsUnnamed v.words v.holds v.kept v.left v.left' v.sent ⊎ IsBroken v.words v.holds v.kept v.left v.left' v.sent)) × WasGiven said no_memory_line said'
   ends_no_memory e = ends NoMemory e (λ h. cc)

@@ -5,4 +5,5 @@ pub mod Outcomes
 pub mod Made
 pub mod Written
 pub mod Ends
+pub mod Checked
 pub mod Agreement

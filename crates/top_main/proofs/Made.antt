@@ -1,16 +1,14 @@
 -- From the answer of a run to that of `make`, which tells the counts behind a value.
-use Rattle.std.proofs.Common.{◌≡◌, ◌≢◌, ℕ, ◌≤◌, ◌<◌, List, length, refl, sym, ap, subst, ◌∙◌, ◌⊎◌, inl, inr, Some, None, arith}
+use Rattle.std.proofs.Common.{◌≡◌, ◌≢◌, ℕ, ◌≤◌, List, length, refl, subst, inl, inr, Some, arith}
 use Rattle.std.specs.Prelude.{Option}
 use Rattle.base.specs.Outside.{Rose}
 use Rattle.base.specs.Given.{WasGiven, WasGivenFront}
-use Rattle.base.specs.declared.place.Place.{Place}
 use Rattle.rv_machine.specs.declared.image.Image.{Image}
 use Rattle.rv_machine.specs.Run.{Feeds}
 use Rattle.lang_meaning.specs.ProgramCounts.{program_nodes}
 use Rattle.lang_meaning.specs.declared.program.ProgramRows.{ProgramRows}
 use Rattle.lang_meaning.specs.declared.evaluation.EvaluationEnd.{EvaluationEnd}
 use Rattle.lang_meaning.specs.declared.evaluation.EvaluationEnd.TheVariants as endings
-use Rattle.top_command.specs.declared.command.Action.{Action}
 use Rattle.top_command.specs.declared.command.Action.TheVariants.{Run, Plain, Make}
 use Rattle.top_lines.specs.declared.status.CommandAnswer.{CommandAnswer}
 use Rattle.top_lines.specs.declared.status.CommandAnswer.TheVariants as answer
@@ -19,7 +17,7 @@ use Rattle.top_exec.specs.Runs.{Sent, sent_to, the_run}
 use Rattle.top_main.specs.Images.{AreBytes}
 use Rattle.top_main.specs.declared.image_run.ProgramEnd.{ProgramEnd}
 use Rattle.top_main.specs.declared.run.ProgramRun.{ProgramRun}
-use Rattle.top_main.specs.Answers.{ProgramSignals, ProgramIsLarge, ProgramBreaks, ProgramAnswers, EndAnswers, Executed, BytesAnswers, IsCounted}
+use Rattle.top_main.specs.Answers.{ProgramIsLarge, ProgramAnswers, EndAnswers, Executed, BytesAnswers, IsCounted}
 use Rattle.top_main.specs.Theorem.{RunCame, Counts, MakeCame}
 
 -- a value is told of a value alone
@@ -81,6 +79,7 @@ module _ (n : ℕ) (names : List (List ℕ)) (program : ProgramRows) (kept : Opt
   of_other answer.NoMemory other (inr (inl h)) = inr (inl h)
   of_other answer.NoMemory other (inr (inr h)) = let no : Run ≡ Plain = h.is_plain in absurd (cc)
   of_other answer.Usage other h = absurd h
+  of_other (answer.Checked warnings) other h = absurd h
   of_other (answer.UnhandledClass class site) other h = absurd h
   of_other (answer.BadImage reason) other h = absurd h
   of_other (answer.Trap kind address) other h = absurd h
@@ -118,6 +117,7 @@ module _ (n : ℕ) (names : List (List ℕ)) (program : ProgramRows) (kept : Opt
   of_counts answer.FileFault run done counted ran h = absurd h.0
   of_counts answer.NoMemory run done counted ran h = absurd h
   of_counts answer.Usage run done counted ran h = absurd h
+  of_counts (answer.Checked warnings) run done counted ran h = absurd h
   of_counts (answer.UnhandledClass class site) run done counted ran h = absurd h
   of_counts (answer.BadImage reason) run done counted ran h = absurd h
   of_counts (answer.Trap kind address) run done counted ran h = absurd h

@@ -6,7 +6,6 @@ use Rattle.lang_meaning.specs.Meaning.{Meant}
 use Rattle.lang_meaning.specs.Values.{Value, integer, character, symbol, nil, object}
 use Rattle.flat_language.specs.Flatten.{flat_program}
 use Rattle.flat_language.specs.FlatNodes.{tables}
-use Rattle.mid_arena.specs.Places.{word_of}
 use Rattle.mid_arena.specs.Tags.{nil_word, tag_of}
 use Rattle.mid_arena.proofs.Arguments.{integer_word_is, character_word_is, object_there, tag_told}
 use Rattle.mid_arena.proofs.Keeping.{tag_low, tag_some}

@@ -19,10 +19,12 @@ use Rattle.top_command.specs.declared.command.Action.{Action}
 use Rattle.top_command.specs.declared.command.Action.TheVariants.{Run, Show, Check, Build, Exec, Plain}
 use Rattle.top_lines.specs.declared.status.CommandAnswer.{CommandAnswer}
 use Rattle.top_lines.specs.declared.status.CommandAnswer.TheVariants as answer
-use Rattle.top_lines.specs.Lines.{counts_line}
+use Rattle.top_lines.specs.declared.status.Status.{Status}
+use Rattle.top_lines.specs.declared.status.Status.TheVariants.{Done, WriteFault}
+use Rattle.top_lines.specs.Lines.{counts_line, ok_line}
 use Rattle.top_exec.specs.Runs.{Sent, the_run}
 use Rattle.top_exec.specs.Executes.{ExecAnswers}
-use Rattle.top_main.specs.Theorem.{Offends, IsLarge, Came, RunsPrograms, FileEnds, FileIsLarge, FileBreaks, IsFileOf, Writes, MakesText, class_text, name_of}
+use Rattle.top_main.specs.Theorem.{Offends, IsLarge, Came, RunsPrograms, FileEnds, FileIsLarge, FileBreaks, FileWarns, AreWarned, IsFileOf, FileBuilds, MakesText, class_text, name_of}
 use Rattle.top_main.specs.Images.{AreBytes}
 use Rattle.top_main.specs.declared.image_run.ProgramEnd.{ProgramEnd}
 use Rattle.top_main.specs.declared.run.ProgramRun.{ProgramRun}
@@ -54,6 +56,7 @@ WrittenAnswers answer.FileFault All Front Bad ShelfRises Rises Same Unkept = She
 WrittenAnswers answer.NoMemory All Front Bad ShelfRises Rises Same Unkept = Same
 WrittenAnswers (answer.Budget n) All Front Bad ShelfRises Rises Same Unkept = ⊥
 WrittenAnswers answer.Usage All Front Bad ShelfRises Rises Same Unkept = ⊥
+WrittenAnswers (answer.Checked warnings) All Front Bad ShelfRises Rises Same Unkept = ⊥
 WrittenAnswers (answer.Unhandled class site) All Front Bad ShelfRises Rises Same Unkept = ⊥
 WrittenAnswers (answer.UnhandledClass class site) All Front Bad ShelfRises Rises Same Unkept = ⊥
 WrittenAnswers (answer.ArenaFull wanted room) All Front Bad ShelfRises Rises Same Unkept = ⊥
@@ -62,10 +65,31 @@ WrittenAnswers answer.ReadFault All Front Bad ShelfRises Rises Same Unkept = ⊥
 WrittenAnswers (answer.BadImage reason) All Front Bad ShelfRises Rises Same Unkept = ⊥
 WrittenAnswers (answer.Trap kind address) All Front Bad ShelfRises Rises Same Unkept = ⊥
 
--- the answer for a text of which these bytes are to be written
-abbrev pub WriteAnswers : CommandAnswer → Action → (held : Option (List ℕ)) → (kept : Option Image) → (given given' : Option (List ℕ)) → (ShelfRises Rises Same : Type 0) → Type 0
-WriteAnswers a action held kept given given' ShelfRises Rises Same =
-    WrittenAnswers a (Wrote (Writes action held kept) WasGiven given given') (Wrote (Writes action held kept) WasGivenFront given given') (Offends action held) ShelfRises Rises Same (kept ≡ None)
+-- the answer of `build` for a text, of which the bytes of its image file are to be written
+abbrev pub WriteAnswers : CommandAnswer → (held : Option (List ℕ)) → (kept : Option Image) → (given given' : Option (List ℕ)) → (ShelfRises Rises Same : Type 0) → Type 0
+WriteAnswers a held kept given given' ShelfRises Rises Same =
+    WrittenAnswers a (Wrote (FileBuilds held kept) WasGiven given given') (Wrote (FileBuilds held kept) WasGivenFront given given') (Offends Build held) ShelfRises Rises Same (kept ≡ None)
+
+-- the answer of `check` for a text, which writes nothing yet: where the shelf rose in faults
+abbrev pub CheckAnswers : CommandAnswer → (held : Option (List ℕ)) → (ShelfRises : Type 0) → Type 0
+CheckAnswers (answer.Checked lines) held ShelfRises = FileWarns held lines
+CheckAnswers (answer.Refused r text) held ShelfRises = Offends Check held r text
+CheckAnswers answer.FileFault held ShelfRises = ShelfRises
+CheckAnswers answer.NoMemory held ShelfRises = ⊤
+CheckAnswers a held ShelfRises = ⊥
+
+-- the answer for a program: what it is warned of, for which memory may be wanting
+abbrev pub IsWarnedOf : CommandAnswer → List (List ℕ) → ProgramRows → Type 0
+IsWarnedOf (answer.Checked lines) names program = AreWarned names program lines
+IsWarnedOf answer.NoMemory names program = ⊤
+IsWarnedOf a names program = ⊥
+
+-- `ok` is written where the warnings were: all of it, or a front; else nothing, and the status stays
+abbrev pub SaysOk : (status result : Status) → (given given' : Option (List ℕ)) → (Rises Same : Type 0) → Type 0
+SaysOk status result given given' Rises Same =
+    ((status ≢ Done) × ((result ≡ status) × Same))
+    ⊎ (((status ≡ Done) × ((result ≡ Done) × WasGiven given ok_line given'))
+    ⊎ ((status ≡ Done) × ((result ≡ WriteFault) × (Rises × WasGivenFront given ok_line given'))))
 
 -- the answer where these bytes were written, or a front of them
 abbrev pub BytesAnswers : CommandAnswer → (bytes : List ℕ) → (given given' : Option (List ℕ)) → (Rises : Type 0) → Type 0
@@ -122,6 +146,7 @@ EndedAnswers answer.FileFault steps Ends Signals Large Breaks Bad ShelfRises Sou
 EndedAnswers answer.NoMemory steps Ends Signals Large Breaks Bad ShelfRises SourceRises Rises Same Unkept =
     Same ⊎ (((class : ℕ) × ((site : Place) × Ends (endings.Unhandled class site))) ⊎ Breaks)
 EndedAnswers answer.Usage steps Ends Signals Large Breaks Bad ShelfRises SourceRises Rises Same Unkept = ⊥
+EndedAnswers (answer.Checked warnings) steps Ends Signals Large Breaks Bad ShelfRises SourceRises Rises Same Unkept = ⊥
 EndedAnswers (answer.UnhandledClass class site) steps Ends Signals Large Breaks Bad ShelfRises SourceRises Rises Same Unkept = ⊥
 EndedAnswers (answer.BadImage reason) steps Ends Signals Large Breaks Bad ShelfRises SourceRises Rises Same Unkept = ⊥
 EndedAnswers (answer.Trap kind address) steps Ends Signals Large Breaks Bad ShelfRises SourceRises Rises Same Unkept = ⊥
@@ -186,9 +211,9 @@ pub data Obeys (a : CommandAnswer) (c : Request) (held : Option (List ℕ)) (kep
       → Obeys a c held kept left left' sent ShelfRises SourceRises Rises Same InputSame ShelfSame
   was_plain : c.action ≡ Plain → kept ≡ None → FileAnswers a Plain held None c.arena c.steps left left' sent ShelfRises SourceRises Rises (Same × InputSame)
       → Obeys a c held kept left left' sent ShelfRises SourceRises Rises Same InputSame ShelfSame
-  was_check : c.action ≡ Check → InputSame → kept ≡ None → WriteAnswers a Check held None sent.before sent.after ShelfRises Rises Same
+  was_check : c.action ≡ Check → InputSame → Same → kept ≡ None → CheckAnswers a held ShelfRises
       → Obeys a c held kept left left' sent ShelfRises SourceRises Rises Same InputSame ShelfSame
-  was_build : c.action ≡ Build → InputSame → WriteAnswers a Build held kept sent.before sent.after ShelfRises Rises Same
+  was_build : c.action ≡ Build → InputSame → WriteAnswers a held kept sent.before sent.after ShelfRises Rises Same
       → Obeys a c held kept left left' sent ShelfRises SourceRises Rises Same InputSame ShelfSame
   was_exec : c.action ≡ Exec → kept ≡ None → ExecAnswers a held c.arena c.steps left left' sent ShelfRises SourceRises Rises (Same × InputSame)
       → Obeys a c held kept left left' sent ShelfRises SourceRises Rises Same InputSame ShelfSame

@@ -1,10 +1,11 @@
 -- The theorem of the top call: what stands after `isl_main` has answered, status by status.
 --
--- It names the words of the command (`Command`), the verdict on a text (`front_files`) behind the library (`front_library`), the text of `make`
+-- It names the words of the command (`Command`), the verdict on a text (`front_files`) behind the library (`front_library`), what a program is
+-- warned of (`lang_warnings`), the text of `make`
 -- (`top_made`), the meaning of a program and what an evaluation reads and prints and how it ends by it (`lang_meaning`), the machine and its runs
 -- (`rv_machine`, `Runs`), what the image of a program does by its meaning (`Images`), the bytes of image files (`rv_image_file`) and what is told of one
 -- that is run (`Executes`), and the lines of statuses (`Lines`), and nothing of how code is made or a program is evaluated.
-use Rattle.std.specs.Prelude.{◌≡◌, ◌≢◌, ◌⊎◌, ⊤, ℕ, ◌<◌, ◌≤◌, List, [], length, slice_get, Option, Some, None, codes}
+use Rattle.std.specs.Prelude.{◌≡◌, ◌≢◌, ◌⊎◌, ⊤, ℕ, ◌<◌, ◌≤◌, List, [], length, slice_get, map, Option, Some, None, codes}
 use Rattle.base.specs.declared.place.Place.{Place}
 use Rattle.base.specs.declared.reason.Refusal.{Refusal}
 use Rattle.base.specs.Given.{WasGiven, WasGivenFront}
@@ -22,6 +23,9 @@ use Rattle.lang_meaning.specs.State.{unlimited}
 use Rattle.lang_meaning.specs.Meaning.{meaning}
 use Rattle.lang_meaning.specs.Primitives.{class_name}
 use Rattle.lang_meaning.specs.ProgramCounts.{program_nodes}
+use Rattle.lang_meaning.specs.Lookup.{text as text_in}
+use Rattle.lang_warnings.specs.declared.warning.Warning.{Warning}
+use Rattle.lang_warnings.specs.Warnings.{AreWarnings}
 use Rattle.lang_meaning.specs.declared.evaluation.EvaluationEnd.{EvaluationEnd}
 use Rattle.lang_meaning.specs.declared.evaluation.EvaluationEnd.TheVariants as endings
 use Rattle.lang_meaning.specs.Evaluates.{Evaluates, BreaksOff}
@@ -30,7 +34,8 @@ use Rattle.top_command.specs.declared.command.Action.{Action}
 use Rattle.top_command.specs.declared.command.Action.TheVariants.{Run, Show, Check, Build, Exec, Plain, Make}
 use Rattle.top_lines.specs.declared.status.Status.{Status}
 use Rattle.top_lines.specs.declared.status.CommandAnswer.{CommandAnswer}
-use Rattle.top_lines.specs.Lines.{usage_line, unhandled_line, refusal_lines, arena_full_line, budget_line, spent_line, read_fault_line, bad_image_line, ok_line, counts_line, line_of, status_of}
+use Rattle.top_lines.specs.declared.status.WarningLine.{WarningLine}
+use Rattle.top_lines.specs.Lines.{usage_line, unhandled_line, refusal_lines, arena_full_line, budget_line, spent_line, read_fault_line, bad_image_line, ok_line, warning_lines, counts_line, line_of, status_of}
 use Rattle.top_made.specs.Text.{text_of as made_text}
 use Rattle.top_exec.specs.Loads.{IsTextTaken}
 use Rattle.top_exec.specs.Runs.{Sent, sent_to, the_run, SaysAll, RunIsCut}
@@ -71,12 +76,6 @@ pub record IsWhole (action : Action) (text : List ℕ) : Type 0 where
   pub names : List (List ℕ)
   pub program : ProgramRows
   pub accepts : AcceptsWhole library text (mode_of action) names program
-
--- the text is one
-pub record Passes (action : Action) (held : Option (List ℕ)) : Type 0 where
-  pub text : List ℕ
-  pub is_text : IsTextOf action held text
-  pub whole : IsWhole action text
 
 -- the text is refused so, and is none
 pub record Offends (action : Action) (held : Option (List ℕ)) (refusal : Refusal) (text : List ℕ) : Type 0 where
@@ -191,11 +190,35 @@ pub record FileBuilds (held : Option (List ℕ)) (kept : Option Image) (bytes : 
   pub whole : IsWhole Build text
   pub is_file_of : IsFileOf whole.names whole.program kept bytes
 
--- what an action that runs nothing has to give to the output: `check` the line `ok`, where it leaves no image, and `build` an image file
-abbrev pub Writes : Action → (held : Option (List ℕ)) → (kept : Option Image) → (bytes : List ℕ) → Type 0
-Writes Check held kept bytes = Passes Check held × ((kept ≡ None) × (bytes ≡ ok_line))
-Writes Build held kept bytes = FileBuilds held kept bytes
-Writes action held kept bytes = ⊥
+-- a warning with the name in words
+abbrev pub worded : List (List ℕ) → Warning → WarningLine
+worded names w = record { place = w.place; name = text_in names w.name.0; fault = w.fault }
+
+-- these are all that a program is warned of, in the order of places
+pub record AreWarned (names : List (List ℕ)) (program : ProgramRows) (lines : List WarningLine) : Type 0 where
+  pub warnings : List Warning
+  pub are : AreWarnings names program warnings
+  pub lines_are : lines ≡ map (worded names) warnings
+
+-- the text to check is a whole program, which is warned of them
+pub record FileWarns (held : Option (List ℕ)) (lines : List WarningLine) : Type 0 where
+  pub text : List ℕ
+  pub is_text : IsTextOf Check held text
+  pub whole : IsWhole Check text
+  pub warned : AreWarned whole.names whole.program lines
+
+-- the lines that tell so of a text that is called so
+pub record IsWarned (file : List ℕ) (held : Option (List ℕ)) (told : List ℕ) : Type 0 where
+  pub lines : List WarningLine
+  pub warns : FileWarns held lines
+  pub told_is : told ≡ warning_lines file lines
+
+-- what an action that runs nothing has to give to the output, and to tell: `check` the line `ok`, where it leaves no image, and its warnings; `build`
+-- an image file, and nothing
+abbrev pub Writes : Action → (file : List ℕ) (held : Option (List ℕ)) → (kept : Option Image) → (bytes told : List ℕ) → Type 0
+Writes Check file held kept bytes told = IsWarned file held told × ((kept ≡ None) × (bytes ≡ ok_line))
+Writes Build file held kept bytes told = FileBuilds held kept bytes × (told ≡ [])
+Writes action file held kept bytes told = ⊥
 
 -- an end that a line tells
 abbrev pub HasLine : EvaluationEnd → Type 0
@@ -288,21 +311,24 @@ pub record IsUntold (words : List (List ℕ)) (holds : List ℕ → Option (List
 
 -- The statuses of `check` and `build`, which run nothing
 
--- Done: the command names a file to check or to build that is a whole program, and just the line `ok`, or the bytes of its image file, were given
+-- Done: the command names a file to check or to build that is a whole program, and just the line `ok`, or the bytes of its image file, were given; a
+-- check has told its warnings
 pub record IsWritten (words : List (List ℕ)) (holds : List ℕ → Option (List ℕ)) (kept : Option Image) (sent : Sent) (said said' : Option (List ℕ)) : Type 0 where
   pub command : Request
   pub asked_for : asked words ≡ Some command
   pub bytes : List ℕ
-  pub writes : Writes command.action (holds command.file) kept bytes
+  pub told : List ℕ
+  pub writes : Writes command.action (name_of command) (holds command.file) kept bytes told
   pub printed : WasGiven sent.before bytes sent.after
-  pub line : WasGiven said [] said'
+  pub line : WasGiven said told said'
 
 -- Write fault of these, of which a front was given
 pub record IsWrittenCutOff (words : List (List ℕ)) (holds : List ℕ → Option (List ℕ)) (kept : Option Image) (sent : Sent) : Type 0 where
   pub command : Request
   pub asked_for : asked words ≡ Some command
   pub bytes : List ℕ
-  pub writes : Writes command.action (holds command.file) kept bytes
+  pub told : List ℕ
+  pub writes : Writes command.action (name_of command) (holds command.file) kept bytes told
   pub printed : WasGivenFront sent.before bytes sent.after
 
 -- Refused, by any action that judges a text: it is no whole program; the lines say where in which file its first offence stands, which it is, and why, and

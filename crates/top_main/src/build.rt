@@ -32,7 +32,7 @@ pub(crate) fn build_file<F: Shelf, O: Sink>(
     kept: &mut Kept,
 ) -> CommandAnswer
     requires empty { kept.old.image ≡ None }
-    ensures { WriteAnswers result ToBuild (F.holds shelf.old file.now) kept.new.image (O.given out.old) (O.given out.new)
+    ensures { WriteAnswers result (F.holds shelf.old file.now) kept.new.image (O.given out.old) (O.given out.new)
         (Rose (F.faults shelf.old) (F.faults shelf.new))
         (Rose (O.faults out.old) (O.faults out.new)) (out.new ≡ out.old) }
 {
@@ -47,7 +47,7 @@ pub(crate) fn build_file<F: Shelf, O: Sink>(
 fn build_text<O: Sink>(alloc: Global, text: Bytes, out: &mut O, kept: &mut Kept) -> CommandAnswer
     requires empty { kept.old.image ≡ None }
     ensures { (held : Option (List ℕ)) → IsTextOf ToBuild held text →
-        WriteAnswers result ToBuild held kept.new.image (O.given out.old) (O.given out.new) ⊥
+        WriteAnswers result held kept.new.image (O.given out.old) (O.given out.new) ⊥
         (Rose (O.faults out.old) (O.faults out.new)) (out.new ≡ out.old) }
 {
     match read_program(alloc, text.as_slice(), Mode::Run) {

@@ -54,8 +54,8 @@ fn class_name(whole: &Whole, class: ClassId) -> &[u8]
     }
 }
 
-// The text of a name; empty where there is no such name.
-fn name_text(names: &Names, name: Name) -> &[u8]
+/// The text of a name; empty where there is no such name.
+pub(crate) fn name_text(names: &Names, name: Name) -> &[u8]
     ensures { result.now ≡ text_of names.now name.0 }
 {
     match names.text(name) {

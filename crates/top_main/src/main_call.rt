@@ -11,7 +11,7 @@ ghost use Rattle.top_lines.specs.declared.status.CommandAnswer.TheVariants.{Writ
 ghost use Rattle.top_lines.specs.declared.status.Status.TheVariants.{Done, Unhandled, Usage, Refused, ArenaFull, Budget, FileFault, ReadFault, WriteFault, NoMemory as WantsMemory, BadImage, Trap};
 ghost use Rattle.top_exec.specs.Runs.{sent_to};
 ghost use Rattle.top_main.specs.Theorem.{IsUsage, IsDone, IsWritten, IsUnhandled, IsArenaFull, IsTooLarge, IsBudget, IsSpent, IsRefused, IsReadFault, IsCutOff, IsWrittenCutOff, IsUnnamed, IsBroken, IsUntold, IsExecuted, IsExecutedSo, IsExecutedUntold, IsLargeImage, IsBadImage, ReadsNothing, KeepsNothing, MakesText, name_in as name_of_asked};
-ghost use Rattle.top_main.specs.Answers.{WordsAnswers, Obeys};
+ghost use Rattle.top_main.specs.Answers.{WordsAnswers, Obeys, SaysOk};
 
 use crate::build::build_file;
 use crate::check::check_file;
@@ -20,7 +20,7 @@ use crate::make::make_text;
 use crate::name::name_in;
 use crate::plain::plain_file;
 use crate::run::run_file;
-use base::{NoMemory, Shelf, Sink, Source, Words};
+use base::{Failed, NoMemory, Shelf, Sink, Source, Words, write_all};
 use std::alloc::Global;
 use top_command::{Action, Command, asked};
 use top_exec::{Bounds, exec_file};
@@ -29,7 +29,7 @@ use top_lines::{CommandAnswer, Status, end_with};
 /// Does all that the program does: judges the words, takes the file from the shelf, and judges its text as a whole
 /// program. For `run` and `show` it compiles the program, runs at most so many instructions of the image with `input` and `out`,
 /// and leaves the image in `kept`; for `build` it gives `out` the bytes of the file of the image, which it leaves there too, and
-/// for `check` the line `ok`; for `plain` it evaluates the program within so many levels with `input` and `out`. For `make` it
+/// for `check` a line for each warning to `err`, and the line `ok`; for `plain` it evaluates the program within so many levels with `input` and `out`. For `make` it
 /// does what it does for `run` with the text of a number in the place of a file, and gives `out` a line of counts. For `exec` it
 /// reads the file as an image file, and runs that image. Then it writes the line of the status to `err`.
 pub fn isl_main<F: Shelf, S: Source, O: Sink, E: Sink>(
@@ -51,7 +51,7 @@ pub fn isl_main<F: Shelf, S: Source, O: Sink, E: Sink>(
 
     // The text of a file to run or to show, of a number, or of a file to evaluate, is a whole program; its image ran, and is kept, or it was
     // evaluated as it means; it ends with a value, and all that it prints was given, and of a number the counts. Or that of a file to check or to
-    // build is one, and `ok` was given, or the bytes of its image file. Or the image of a file halts.
+    // build is one, and its warnings were told and `ok` was given, or the bytes of its image file. Or the image of a file halts.
     ensures done { result ≡ Done →
         IsDone words.now (F.holds shelf.old) kept.new.image (S.left input.old) (S.left input.new)
         (sent_to (O.given out.old) (O.writes out.old) (O.given out.new) (O.writes out.new)) (E.given err.old) (E.given err.new)
@@ -156,9 +156,28 @@ pub fn isl_main<F: Shelf, S: Source, O: Sink, E: Sink>(
 {
     kept.image = None;
     let Answered { command, answer } = answer_to(alloc, words, shelf, input, out, kept);
+    let is_checked = answer.is_checked();
     let status = end_with(err, name_in(&command), answer);
     drop(command);
-    status
+    if is_checked {
+        say_ok(out, status)
+    } else {
+        status
+    }
+}
+
+// Writes the line `ok` of a check, where its warnings were written.
+fn say_ok<O: Sink>(out: &mut O, status: Status) -> Status
+    ensures { SaysOk status result (O.given out.old) (O.given out.new)
+        (Rose (O.faults out.old) (O.faults out.new)) (out.new ≡ out.old) }
+{
+    match status {
+        Status::Done => match write_all(out, b"ok\n") {
+            Ok(()) => Status::Done,
+            Err(Failed) => Status::WriteFault,
+        },
+        other => other,
+    }
 }
 
 // The answer to the words, and the command that they ask for; none where they are none, or memory was wanting to tell.
@@ -253,7 +272,7 @@ fn act<F: Shelf, S: Source, O: Sink>(
     match action {
         Action::Run => run_file(alloc, Action::Run, bounds, file, shelf, input, out, kept),
         Action::Show => run_file(alloc, Action::Show, bounds, file, shelf, input, out, kept),
-        Action::Check => check_file(alloc, file, shelf, out),
+        Action::Check => check_file(alloc, file, shelf),
         Action::Build => build_file(alloc, file, shelf, out, kept),
         Action::Exec => exec_file(alloc, bounds, file, shelf, input, out),
         Action::Plain => plain_file(alloc, bounds, file, shelf, input, out),

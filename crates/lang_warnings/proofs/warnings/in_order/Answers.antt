@@ -8,13 +8,13 @@ use Rattle.lang_warnings.proofs.warnings.in_order.Goals as goal
 
 pub returns : goal.returns
 returns c =
-  let names = c.args.known.now.names.now in
-  let program = c.args.known.now.program.now in record {
-  same =
-    subst (λ (list : List Warning). IsPermutation list c.sort_by_key.new.self.items)
-    (c.in_ok-add_program.ensures ∙ ap (λ (list : List Warning). list ++ all_warnings names program) c.new-list.ensures.items)
-    c.sort_by_key.ensures.permutation;
-  rising =
-    IsNonDecreasingBy-from_sort_by_key (λ (w : Warning). place_number w.place) _ c.in_ok-sort_by_key.ensures.sorted
-    (λ a r q k. search rules);
-}
+    let names = c.args.known.now.names.now in
+    let program = c.args.known.now.program.now in record {
+      same =
+          subst (λ (list : List Warning). IsPermutation list c.sort_by_key.new.self.items)
+          (c.in_ok-add_program.ensures ∙ ap (λ (list : List Warning). list ++ all_warnings names program) c.new-list.ensures.items)
+          c.sort_by_key.ensures.permutation;
+      rising =
+          IsNonDecreasingBy-from_sort_by_key (λ (w : Warning). place_number w.place) _ c.in_ok-sort_by_key.ensures.sorted
+          (λ a r q k. search rules);
+    }

@@ -1,7 +1,6 @@
 -- The text was taken of the shelf.
-use Rattle.top_command.specs.declared.command.Action.TheVariants.{Build}
 use Rattle.top_main.proofs.Written.{of_shelf}
 use Rattle.top_main.proofs.build.build_file.Goals as goal
 
 pub returns-in-Ok : goal.returns-in-Ok
-returns-in-Ok g c = of_shelf c.build_text.result Build _ _ _ _ _ _ _ (c.build_text.ensures _ c.in-Ok.ensures.taken)
+returns-in-Ok g c = of_shelf c.build_text.result _ _ _ _ _ _ _ (c.build_text.ensures _ c.in-Ok.ensures.taken)

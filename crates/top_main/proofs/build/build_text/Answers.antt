@@ -14,6 +14,6 @@ returns-in-Ok g c = λ held is_text.
 
 pub returns-in-Err : goal.returns-in-Err
 returns-in-Err g c = λ held is_text.
-    of_no_program c.of_stop.result c.in-Err.stop Build held c.as_slice.result.now _ _ _ _ _ _
+    of_no_program c.of_stop.result c.in-Err.stop held c.as_slice.result.now _ _ _ _ _ _
     (subst (λ (t : List ℕ). c.of_stop.result ≡ answer_of_stop t c.in-Err.stop) (sym c.as_slice.ensures) c.of_stop.ensures)
     (subst (IsTextOf Build held) (sym c.as_slice.ensures) is_text) c.in-Err.ensures.stops refl c.requires.empty

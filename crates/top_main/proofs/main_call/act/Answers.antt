@@ -11,7 +11,7 @@ pub returns-in-Show : goal.returns-in-Show
 returns-in-Show g c = obeyed _ _ _ _ _ _ _ _ _ _ _ _ _ _ c.in-Show.is tt (λ m. absurd m) c.run_file-in-Show.ensures
 
 pub returns-in-Check : goal.returns-in-Check
-returns-in-Check g c = was_check c.in-Check.is refl c.requires.empty c.check_file.ensures
+returns-in-Check g c = was_check c.in-Check.is refl refl c.requires.empty c.check_file.ensures
 
 pub returns-in-Build : goal.returns-in-Build
 returns-in-Build g c = was_build c.in-Build.is refl c.build_file.ensures

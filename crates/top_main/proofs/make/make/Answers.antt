@@ -1,5 +1,5 @@
 -- The counts are told behind a value; any other answer stays.
-use Rattle.std.proofs.Common.{◌≡◌, sym, subst, ◌⊎◌, inl, inr}
+use Rattle.std.proofs.Common.{◌≡◌, sym, subst, inl, inr}
 use Rattle.base.specs.Outside.{Rose}
 use Rattle.top_command.specs.declared.command.Action.TheVariants.{Make}
 use Rattle.top_exec.specs.Runs.{sent_to}
