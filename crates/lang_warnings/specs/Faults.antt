@@ -1,5 +1,5 @@
--- **What is wrong with a form of a program**, so that each evaluation of it signals a condition: a call that finds no function (ISO/IEC
--- 13816:2007, 12.7), or one that takes other numbers of arguments, and a global variable that the program never defines (14.2).
+-- **What is wrong with a form of a program**, so that an evaluation of it that its parts do not leave signals a condition: a call that finds
+-- no function (ISO/IEC 13816:2007, 12.7), or one that takes other numbers of arguments, and a global variable that is never defined (14.2).
 use Rattle.std.specs.Prelude.{ℕ, ◌==◌, Bool, List, length, Option, Some, None, is_some, if◌then◌else◌, nat_le, slice_get, flat_map, filter_map}
 use Rattle.base.specs.declared.datum.Name.{Name}
 use Rattle.lang_meaning.specs.Form.{Form, call, global, set_global, def_global}

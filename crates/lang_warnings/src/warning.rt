@@ -2,7 +2,7 @@
 
 use base::{Name, Place};
 
-/// What is wrong with a form: each evaluation that comes to it signals a condition, whatever its parts give.
+/// What is wrong with a form: an evaluation that comes to it, and that its parts do not leave, signals a condition.
 #[derive(Clone, Copy, Debug, PartialEq, Eq)]
 pub enum Fault {
     /// It calls a name that has no function (`<undefined-function>`, ISO/IEC 13816:2007, 29.4).
