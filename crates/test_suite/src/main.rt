@@ -12,7 +12,13 @@ use std::{fs, io};
 use table::put_all;
 
 // The tables: the command and its actions, warnings, macros, the library, and the examples of its manual.
-const TABLES: [&str; 5] = ["cases.txt", "warnings.txt", "macros.txt", "library.txt", "book.txt"];
+const TABLES: [&str; 5] = [
+    "cases.txt",
+    "warnings.txt",
+    "macros.txt",
+    "library.txt",
+    "book.txt",
+];
 
 fn main(rt: HostRuntime) -> io::Result<ExitCode> {
     let mut are_right = true;
