@@ -60,8 +60,8 @@ pub fn asked(alloc: Global, words: &Words) -> Result<Option<Command>, NoMemory>
     command
 }
 
-// The words as texts.
-fn texts_of<'a>(alloc: Global, words: &'a Words) -> Result<Vec<&'a str>, NoMemory>
+/// The words as texts.
+pub(crate) fn texts_of<'a>(alloc: Global, words: &'a Words) -> Result<Vec<&'a str>, NoMemory>
     ensures { IfOk result (λ texts. map (λ s. s.now) texts.items ≡ words.now) }
 {
     let mut texts = Vec::new(alloc);

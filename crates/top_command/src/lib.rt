@@ -4,5 +4,7 @@
 pub mod command;
 mod command_line;
 mod numbers;
+pub mod wrong;
 
 pub use command::{Action, Command, asked};
+pub use wrong::wrong_word;

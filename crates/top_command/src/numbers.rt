@@ -2,6 +2,7 @@
 
 ghost use Rattle.std.specs.Prelude.{◌≡◌, option_map};
 ghost use Rattle.top_command.specs.Limits.{most_made};
+ghost use Rattle.top_command.specs.Wrong.{is_value as is_value_of};
 ghost use Rattle.top_command.specs.Command.{steps_in as steps_in_of, arena_in as arena_in_of, number_in as number_in_of, up_to, digits_in};
 
 // The instructions of a run where no number is given.
@@ -46,8 +47,26 @@ pub(crate) fn made_number(word: &str) -> Option<u32>
     number_in(word, 1, MOST_MADE)
 }
 
+/// Whether the bytes are a value of `--arena`, or of `--steps`.
+pub(crate) fn is_value(arena: bool, value: &[u8]) -> bool
+    ensures { result ≡ is_value_of arena value.now }
+{
+    if arena {
+        number_of(value, LEAST_ARENA, MOST_ARENA).is_some()
+    } else {
+        number_of(value, 0, u32::MAX).is_some()
+    }
+}
+
 // The number that the word is, where it is one from `least` to `most`.
 fn number_in(word: &str, least: u32, most: u32) -> Option<u32>
+    ensures { result ≡ number_in_of least most word.now }
+{
+    number_of(word.as_bytes(), least, most)
+}
+
+// The same of bytes.
+fn number_of(word: &[u8], least: u32, most: u32) -> Option<u32>
     ensures { result ≡ number_in_of least most word.now }
 {
     let number = number_up_to(word, most)?;
@@ -57,10 +76,9 @@ fn number_in(word: &str, least: u32, most: u32) -> Option<u32>
 // The number of one or more decimal digits; none where it is above `most` or the word is anything
 // else.
 #[tactic(auto, using(crate::proofs::Digits::digits))]
-fn number_up_to(word: &str, most: u32) -> Option<u32>
-    ensures { result ≡ up_to most (digits_in word.now) }
+fn number_up_to(digits: &[u8], most: u32) -> Option<u32>
+    ensures { result ≡ up_to most (digits_in digits.now) }
 {
-    let digits = word.as_bytes();
     if digits.is_empty() {
         return None;
     }

@@ -77,7 +77,7 @@ AnswersOf (answer.BadImage reason) Runs Large Bad ShelfRises SourceRises Rises S
 AnswersOf answer.FileFault Runs Large Bad ShelfRises SourceRises Rises Same = ShelfRises × Same
 AnswersOf answer.NoMemory Runs Large Bad ShelfRises SourceRises Rises Same = Same
 AnswersOf (answer.Unhandled class site) Runs Large Bad ShelfRises SourceRises Rises Same = ⊥
-AnswersOf answer.Usage Runs Large Bad ShelfRises SourceRises Rises Same = ⊥
+AnswersOf (answer.Usage word) Runs Large Bad ShelfRises SourceRises Rises Same = ⊥
 AnswersOf (answer.Checked warnings) Runs Large Bad ShelfRises SourceRises Rises Same = ⊥
 AnswersOf (answer.Refused r text) Runs Large Bad ShelfRises SourceRises Rises Same = ⊥
 AnswersOf answer.Spent Runs Large Bad ShelfRises SourceRises Rises Same = ⊥

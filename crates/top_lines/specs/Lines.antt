@@ -91,8 +91,13 @@ trap_line kind address = line (labelled (codes "trap ") (trap_number kind) ++ la
 abbrev pub spent_line : List ℕ
 spent_line = line (codes "spent 9223372036854775808")
 
-abbrev pub usage_line : List ℕ
-usage_line = line (codes "usage: isl [--steps N] [--arena W] run|show|check|build|exec|plain FILE, or make N; isl --help tells more")
+unfoldable pub usage_text : List ℕ
+usage_text = codes "usage: isl [--steps N] [--arena W] run|show|check|build|exec|plain FILE, or make N; isl --help tells more"
+
+-- with the word that is wrong, where one is
+abbrev pub usage_line : Option (List ℕ) → List ℕ
+usage_line None = line usage_text
+usage_line (Some word) = line ((usage_text ++ codes "; wrong: ") ++ word)
 
 -- what `check` writes to the output of a file that is a program
 abbrev pub ok_line : List ℕ
@@ -117,7 +122,7 @@ abbrev pub line_of : (file : List ℕ) → CommandAnswer → List ℕ
 line_of file answer.Done = []
 line_of file (answer.Checked warnings) = warning_lines file warnings
 line_of file (answer.Unhandled class site) = unhandled_line file class site
-line_of file answer.Usage = usage_line
+line_of file (answer.Usage word) = usage_line word
 line_of file (answer.Refused r text) = refusal_lines file text r
 line_of file (answer.ArenaFull asked left) = arena_full_line asked left
 line_of file (answer.Budget n) = budget_line n
@@ -134,7 +139,7 @@ abbrev pub status_of : CommandAnswer → Status
 status_of answer.Done = Done
 status_of (answer.Checked warnings) = Done
 status_of (answer.Unhandled class site) = Unhandled
-status_of answer.Usage = Usage
+status_of (answer.Usage word) = Usage
 status_of (answer.Refused r text) = Refused
 status_of (answer.ArenaFull asked left) = ArenaFull
 status_of (answer.Budget n) = Budget

@@ -4,7 +4,7 @@ ghost use Rattle.std.specs.Prelude.{◌≡◌, ◌≢◌, ◌≤◌, ◌<◌, Li
 ghost use Rattle.std.specs.Fmt.{decimal};
 ghost use Rattle.base.specs.Outside.{Rose};
 ghost use Rattle.base.specs.Given.{WasGiven, WasGivenFront};
-ghost use Rattle.top_lines.specs.Lines.{line, line_of, unhandled_line, site_in, place_in, unhandled_class_line, site_text, bad_image_line, trap_line, labelled, counts_line, refusal_lines, refused_line, place_text, reason_text, arena_full_line, budget_line, status_of};
+ghost use Rattle.top_lines.specs.Lines.{line, line_of, unhandled_line, site_in, place_in, unhandled_class_line, site_text, bad_image_line, trap_line, labelled, counts_line, refusal_lines, refused_line, place_text, reason_text, arena_full_line, budget_line, usage_line, usage_text as usage, status_of};
 ghost use Rattle.top_lines.specs.Sentences.{sentence_of as sentence};
 ghost use Rattle.top_lines.specs.declared.status.Status.TheVariants.{WriteFault};
 
@@ -12,7 +12,7 @@ use crate::excerpts::write_excerpt;
 use crate::sentences::sentence_of;
 use crate::status::{CommandAnswer, Status};
 use crate::warnings::write_warnings;
-use base::{Failed, Place, Reason, Refusal, Sink, write_all};
+use base::{Bytes, Failed, Place, Reason, Refusal, Sink, write_all};
 use rv_image_file::BadImage;
 use rv_machine::TrapKind;
 
@@ -60,10 +60,7 @@ fn write_line<E: Sink>(err: &mut E, file: &[u8], answer: &CommandAnswer) -> Resu
         CommandAnswer::Unhandled { class, site } => {
             write_unhandled(err, file, class.as_slice(), *site)
         }
-        CommandAnswer::Usage => write_all(
-            err,
-            b"usage: isl [--steps N] [--arena W] run|show|check|build|exec|plain FILE, or make N; isl --help tells more\n",
-        ),
+        CommandAnswer::Usage(word) => write_usage(err, word),
         CommandAnswer::Refused { refusal, text } => {
             write_refusal(err, file, text.as_slice(), *refusal)
         }
@@ -77,6 +74,28 @@ fn write_line<E: Sink>(err: &mut E, file: &[u8], answer: &CommandAnswer) -> Resu
         CommandAnswer::BadImage(fault) => write_bad_image(err, *fault),
         CommandAnswer::Trap { kind, address } => write_trap(err, *kind, *address),
     }
+}
+
+// How a command is written, and the word that is wrong.
+fn write_usage<E: Sink>(err: &mut E, word: &Option<Bytes>) -> Result<(), Failed>
+    ensures given { OnOk result (WasGiven (E.given err.old) (usage_line word.now) (E.given err.new)) }
+    ensures fault { OnErr result (Rose (E.faults err.old) (E.faults err.new)) }
+    ensures count { E.faults err.old ≤ E.faults err.new }
+{
+    write_all(err, usage_text())?;
+    if let Some(word) = word {
+        write_all(err, b"; wrong: ")?;
+        write_all(err, word.as_slice())?;
+    }
+    write_all(err, b"\n")
+}
+
+// How a command is written.
+#[tactic(auto, unfolding(crate::specs::Lines::usage_text))]
+fn usage_text() -> &'static [u8]
+    ensures { result.now ≡ usage }
+{
+    b"usage: isl [--steps N] [--arena W] run|show|check|build|exec|plain FILE, or make N; isl --help tells more"
 }
 
 // `FILE:LINE:COLUMN: unhandled CLASS`, or `FILE: unhandled CLASS`

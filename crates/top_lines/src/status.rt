@@ -76,7 +76,7 @@ pub type WarningLines = ItemList<WarningLine>;
 /// left; how many instructions were executed, or how many levels there were. `Spent` is the status `Budget`
 /// of an evaluation in which as many forms began as may begin. `UnhandledClass` is the status `Unhandled` of an
 /// image of which no program is known: the number of the class, and the place of the site where the file has it.
-/// Of a trap the kind is told and its address. `Checked` is the status `Done` of a file that is a program, with what its
+/// Of words that are no command the first that is wrong is told, where one is. Of a trap the kind is told and its address. `Checked` is the status `Done` of a file that is a program, with what its
 /// forms are warned of.
 #[derive(Drop)]
 pub enum CommandAnswer {
@@ -84,7 +84,7 @@ pub enum CommandAnswer {
     Checked(WarningLines),
     Unhandled { class: Bytes, site: Place },
     UnhandledClass { class: u32, site: Option<Place> },
-    Usage,
+    Usage(Option<Bytes>),
     Refused { refusal: Refusal, text: Bytes },
     ArenaFull { asked: u64, left: u64 },
     Budget(u32),
@@ -130,7 +130,7 @@ impl CommandAnswer {
             CommandAnswer::Unhandled { .. } | CommandAnswer::UnhandledClass { .. } => {
                 Status::Unhandled
             }
-            CommandAnswer::Usage => Status::Usage,
+            CommandAnswer::Usage(_) => Status::Usage,
             CommandAnswer::Refused { .. } => Status::Refused,
             CommandAnswer::ArenaFull { .. } => Status::ArenaFull,
             CommandAnswer::Budget(_) | CommandAnswer::Spent => Status::Budget,

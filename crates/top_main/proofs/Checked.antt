@@ -171,7 +171,7 @@ check_ended v (answer.Refused x text) ErrRises Rises Same sent said said' r resu
 check_ended v answer.FileFault ErrRises Rises Same sent said said' r result is told done line fault ok = absurd (cc)
 check_ended v answer.NoMemory ErrRises Rises Same sent said said' r result is told done line fault ok = absurd (cc)
 check_ended v (answer.Budget n) ErrRises Rises Same sent said said' r result is told done line fault ok = absurd (cc)
-check_ended v answer.Usage ErrRises Rises Same sent said said' r result is told done line fault ok = absurd (cc)
+check_ended v (answer.Usage word) ErrRises Rises Same sent said said' r result is told done line fault ok = absurd (cc)
 check_ended v (answer.Unhandled class site) ErrRises Rises Same sent said said' r result is told done line fault ok = absurd (cc)
 check_ended v (answer.UnhandledClass class site) ErrRises Rises Same sent said said' r result is told done line fault ok = absurd (cc)
 check_ended v (answer.ArenaFull wanted room) ErrRises Rises Same sent said said' r result is told done line fault ok = absurd (cc)

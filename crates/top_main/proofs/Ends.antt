@@ -11,13 +11,14 @@ use Rattle.rv_image_file.specs.declared.faults.BadImage.{BadImage as ImageFault}
 use Rattle.lang_meaning.specs.declared.evaluation.EvaluationEnd.{EvaluationEnd}
 use Rattle.lang_meaning.specs.declared.evaluation.EvaluationEnd.TheVariants as endings
 use Rattle.top_command.specs.Command.{Request, asked}
+use Rattle.top_command.specs.Wrong.{wrong_word}
 use Rattle.top_command.specs.declared.command.Action.{Action}
 use Rattle.top_command.specs.declared.command.Action.TheVariants.{Run, Show, Check, Build, Exec, Plain, Make}
 use Rattle.top_lines.specs.declared.status.Status.{Status}
 use Rattle.top_lines.specs.declared.status.Status.TheVariants.{Done, Unhandled, Usage, Refused, ArenaFull, Budget, FileFault, ReadFault, WriteFault, NoMemory, BadImage, Trap}
 use Rattle.top_lines.specs.declared.status.CommandAnswer.{CommandAnswer}
 use Rattle.top_lines.specs.declared.status.CommandAnswer.TheVariants as answer
-use Rattle.top_lines.specs.Lines.{is_checked as is_checked_answer, line_of, status_of, unhandled_line, budget_line, refusal_lines, arena_full_line, spent_line, file_fault_line, read_fault_line, no_memory_line, bad_image_line, labelled, site_text}
+use Rattle.top_lines.specs.Lines.{is_checked as is_checked_answer, usage_line, line_of, status_of, unhandled_line, budget_line, refusal_lines, arena_full_line, spent_line, file_fault_line, read_fault_line, no_memory_line, bad_image_line, labelled, site_text}
 use Rattle.top_exec.specs.Runs.{Sent}
 use Rattle.top_exec.specs.Executes.{ExecAnswers, Executes}
 use Rattle.top_main.specs.Answers.{WriteAnswers, CheckAnswers, FileAnswers, was_ended, was_plain, was_check, was_build, was_exec, WordsAnswers, was_usage, was_untold, was_asked}
@@ -28,11 +29,11 @@ settled : (r s : Status) → (r ≢ WriteFault → r ≡ s) → (r ≡ s) ⊎ (r
 settled WriteFault s w = inr refl
 settled other s w = inl (w (λ h. cc))
 
-first_status : (a : CommandAnswer) (r : Status) → (a ≡ answer.Usage) ⊎ (a ≡ answer.NoMemory) → (r ≡ status_of a) ⊎ (r ≡ WriteFault)
+first_status : (a : CommandAnswer) (r : Status) (word : Option (List ℕ)) → (a ≡ answer.Usage word) ⊎ (a ≡ answer.NoMemory) → (r ≡ status_of a) ⊎ (r ≡ WriteFault)
     → (r ≡ Usage) ⊎ ((r ≡ WriteFault) ⊎ (r ≡ NoMemory))
-first_status a r (inl e) (inl k) = inl (k ∙ ap status_of e)
-first_status a r (inr e) (inl k) = inr (inr (k ∙ ap status_of e))
-first_status a r w (inr k) = inr (inl k)
+first_status a r word (inl e) (inl k) = inl (k ∙ ap status_of e)
+first_status a r word (inr e) (inl k) = inr (inr (k ∙ ap status_of e))
+first_status a r word w (inr k) = inr (inl k)
 
 -- a line is not empty
 line_some : (text : List ℕ) → text ++ 10 ∷ [] ≢ []
@@ -74,7 +75,7 @@ Executed v a c = ExecAnswers a (v.holds c.file) c.arena c.steps v.left v.left' v
 
 -- the answer to the words, where a run and an evaluation are told alike
 data Heard (v : View) (a : CommandAnswer) : Type 0 where
-  is_usage : a ≡ answer.Usage → asked v.words ≡ None → v.Same × v.InputSame → Heard v a
+  is_usage : a ≡ answer.Usage (wrong_word v.words) → asked v.words ≡ None → v.Same × v.InputSame → Heard v a
   is_untold : a ≡ answer.NoMemory → v.Same × v.InputSame → Heard v a
   is_checked : (c : Request) → asked v.words ≡ Some c → v.name ≡ name_of c → c.action ≡ Check → v.kept ≡ None → v.InputSame → v.Same → CheckedSo v a c → Heard v a
   is_written : (c : Request) → asked v.words ≡ Some c → v.name ≡ name_of c → c.action ≡ Build → v.InputSame → Written v a c → Heard v a
@@ -187,13 +188,15 @@ module _ (v : View) (said said' : Option (List ℕ)) where
   unhandled_class class site (is_ended c is named h) line = absurd h
   unhandled_class class site (is_executed c is named x k h) line = inr (image_says (answer.UnhandledClass class site) (executed v c (answer.UnhandledClass class site) is x k h) named line)
 
-  usage : Heard v answer.Usage → Line (line_of v.name answer.Usage) → Says Usage
-  usage (is_usage e none same) line = (record { asked_for = none; line = line }, same.1)
-  usage (is_untold e same) line = absurd (cc)
-  usage (is_checked c is named b k i same h) line = absurd h
-  usage (is_written c is named b i h) line = absurd h
-  usage (is_ended c is named h) line = absurd h
-  usage (is_executed c is named x k h) line = absurd h
+  usage : (word : Option (List ℕ)) → Heard v (answer.Usage word) → Line (usage_line word) → Says Usage
+  usage word (is_usage e none same) line =
+      let same_word : word ≡ wrong_word v.words = cc in
+      (record { asked_for = none; line = subst (λ (w : Option (List ℕ)). Line (usage_line w)) same_word line }, same.1)
+  usage word (is_untold e same) line = absurd (cc)
+  usage word (is_checked c is named b k i same h) line = absurd h
+  usage word (is_written c is named b i h) line = absurd h
+  usage word (is_ended c is named h) line = absurd h
+  usage word (is_executed c is named x k h) line = absurd h
 
   abbrev refused_so : Refusal → (text name : List ℕ) → Type 0
   refused_so r text name = Line (refusal_lines name text r)
@@ -300,7 +303,7 @@ module _ (v : View) (said said' : Option (List ℕ)) where
   says (answer.Checked lines) other w line = absurd (cc)
   says answer.Done other w line = done w line
   says (answer.Unhandled class site) other w line = unhandled class site w line
-  says answer.Usage other w line = usage w line
+  says (answer.Usage word) other w line = usage word w line
   says (answer.Refused x text) other w line = refused x text w line
   says (answer.ArenaFull wanted room) other w line = arena_full wanted room w line
   says (answer.Budget n) other w line = budget n w line
@@ -339,13 +342,13 @@ module _ (v : View) where
   cut (is_executed c is named x k h) = (h.0, inr (inr (executed v c answer.WriteFault is x k h.1)))
 
   -- the outside stays where the words, the text or the image file are refused, or the shelf fails
-  usage_same : Heard v answer.Usage → v.Same × v.InputSame
-  usage_same (is_usage e none same) = same
-  usage_same (is_untold e same) = same
-  usage_same (is_checked c is named b k i same h) = absurd h
-  usage_same (is_written c is named b i h) = absurd h
-  usage_same (is_ended c is named h) = absurd h
-  usage_same (is_executed c is named x k h) = absurd h
+  usage_same : (word : Option (List ℕ)) → Heard v (answer.Usage word) → v.Same × v.InputSame
+  usage_same word (is_usage e none same) = same
+  usage_same word (is_untold e same) = same
+  usage_same word (is_checked c is named b k i same h) = absurd h
+  usage_same word (is_written c is named b i h) = absurd h
+  usage_same word (is_ended c is named h) = absurd h
+  usage_same word (is_executed c is named x k h) = absurd h
 
   refused_same : (r : Refusal) (text : List ℕ) → Heard v (answer.Refused r text) → v.Same × v.InputSame
   refused_same r text (is_usage e none same) = same
@@ -453,7 +456,7 @@ module _ (v : View) where
       done_is_none : Done ≡ WriteFault → ⊥
       done_is_none h = cc
   write_fault (answer.Unhandled class site) r ErrRises other w e fault quiet = unhandled_untold ErrRises class site (fault e (λ h. cc)) w
-  write_fault answer.Usage r ErrRises other w e fault quiet = inl (fault e (λ h. cc), usage_same w)
+  write_fault (answer.Usage word) r ErrRises other w e fault quiet = inl (fault e (λ h. cc), usage_same word w)
   write_fault (answer.Refused x text) r ErrRises other w e fault quiet = inl (fault e (λ h. cc), refused_same x text w)
   write_fault (answer.ArenaFull wanted room) r ErrRises other w e fault quiet = full_untold ErrRises wanted room (fault e (λ h. cc)) w
   write_fault (answer.Budget n) r ErrRises other w e fault quiet = budget_untold ErrRises n (fault e (λ h. cc)) w
@@ -473,7 +476,7 @@ module _ (v : View) where
   line_named a (was_asked c is named o) = ap (λ name. line_of name a) (named ∙ ap name_in (sym is))
 
   -- where the words are no command, nothing is touched
-  untouched : (a : CommandAnswer) → Told v a → asked v.words ≡ None → ((a ≡ answer.Usage) ⊎ (a ≡ answer.NoMemory)) × v.ShelfSame × v.Same × v.InputSame × (v.kept ≡ None)
+  untouched : (a : CommandAnswer) → Told v a → asked v.words ≡ None → ((a ≡ answer.Usage (wrong_word v.words)) ⊎ (a ≡ answer.NoMemory)) × v.ShelfSame × v.Same × v.InputSame × (v.kept ≡ None)
   untouched a (was_usage e none shelf same i k) h = (inl e, shelf, same, i, k)
   untouched a (was_untold e shelf same i k) h = (inr e, shelf, same, i, k)
   untouched a (was_asked c is named o) h = absurd (cc)
@@ -482,7 +485,7 @@ module _ (v : View) where
       → ((r ≡ Usage) ⊎ ((r ≡ WriteFault) ⊎ (r ≡ NoMemory))) × v.ShelfSame × v.Same × v.InputSame × (v.kept ≡ None)
   words_first a r w written h =
       let u = untouched a w h in
-      (first_status a r u.0 (settled r (status_of a) written), u.1, u.2, u.3, u.4)
+      (first_status a r (wrong_word v.words) u.0 (settled r (status_of a) written), u.1, u.2, u.3, u.4)
 
   -- the command that was obeyed is the one that the words ask for
   module _ (command : Request) (is_asked : asked v.words ≡ Some command) where

@@ -78,7 +78,7 @@ module _ (n : ℕ) (names : List (List ℕ)) (program : ProgramRows) (kept : Opt
   of_other answer.NoMemory other (inl h) = inl h
   of_other answer.NoMemory other (inr (inl h)) = inr (inl h)
   of_other answer.NoMemory other (inr (inr h)) = let no : Run ≡ Plain = h.is_plain in absurd (cc)
-  of_other answer.Usage other h = absurd h
+  of_other (answer.Usage word) other h = absurd h
   of_other (answer.Checked warnings) other h = absurd h
   of_other (answer.UnhandledClass class site) other h = absurd h
   of_other (answer.BadImage reason) other h = absurd h
@@ -116,7 +116,7 @@ module _ (n : ℕ) (names : List (List ℕ)) (program : ProgramRows) (kept : Opt
   of_counts (answer.Refused r text) run done counted ran h = absurd h.0
   of_counts answer.FileFault run done counted ran h = absurd h.0
   of_counts answer.NoMemory run done counted ran h = absurd h
-  of_counts answer.Usage run done counted ran h = absurd h
+  of_counts (answer.Usage word) run done counted ran h = absurd h
   of_counts (answer.Checked warnings) run done counted ran h = absurd h
   of_counts (answer.UnhandledClass class site) run done counted ran h = absurd h
   of_counts (answer.BadImage reason) run done counted ran h = absurd h

@@ -106,7 +106,7 @@ module _ (Ends Ends' : EvaluationEnd → Type 0) (Signals Signals' : List ℕ �
   retold answer.NoMemory steps (inl same) = inl same
   retold answer.NoMemory steps (inr (inl h)) = inr (inl (h.0, (h.1.0, ends (endings.Unhandled h.0 h.1.0) h.1.1)))
   retold answer.NoMemory steps (inr (inr h)) = inr (inr (breaks h))
-  retold answer.Usage steps h = absurd h
+  retold (answer.Usage word) steps h = absurd h
   retold (answer.Checked warnings) steps h = absurd h
   retold (answer.UnhandledClass class site) steps h = absurd h
   retold (answer.BadImage reason) steps h = absurd h
@@ -216,7 +216,7 @@ of_no_shelf answer.WriteFault action held kept arena steps left left' sent Shelf
 of_no_shelf (answer.Refused r text) action held kept arena steps left left' sent ShelfRises SourceRises Rises Same h = h
 of_no_shelf answer.FileFault action held kept arena steps left left' sent ShelfRises SourceRises Rises Same h = absurd h.0
 of_no_shelf answer.NoMemory action held kept arena steps left left' sent ShelfRises SourceRises Rises Same h = h
-of_no_shelf answer.Usage action held kept arena steps left left' sent ShelfRises SourceRises Rises Same h = absurd h
+of_no_shelf (answer.Usage word) action held kept arena steps left left' sent ShelfRises SourceRises Rises Same h = absurd h
 of_no_shelf (answer.Checked warnings) action held kept arena steps left left' sent ShelfRises SourceRises Rises Same h = absurd h
 of_no_shelf (answer.UnhandledClass class site) action held kept arena steps left left' sent ShelfRises SourceRises Rises Same h = absurd h
 of_no_shelf (answer.BadImage reason) action held kept arena steps left left' sent ShelfRises SourceRises Rises Same h = absurd h

@@ -15,6 +15,7 @@ use Rattle.lang_meaning.specs.Evaluates.{BreaksOff}
 use Rattle.lang_meaning.specs.Meaning.{place_of_site}
 use Rattle.lang_meaning.specs.State.{no_place}
 use Rattle.top_command.specs.Command.{Request, asked}
+use Rattle.top_command.specs.Wrong.{wrong_word}
 use Rattle.top_command.specs.declared.command.Action.{Action}
 use Rattle.top_command.specs.declared.command.Action.TheVariants.{Run, Show, Check, Build, Exec, Plain}
 use Rattle.top_lines.specs.declared.status.CommandAnswer.{CommandAnswer}
@@ -55,7 +56,7 @@ WrittenAnswers (answer.Refused r text) All Front Bad ShelfRises Rises Same Unkep
 WrittenAnswers answer.FileFault All Front Bad ShelfRises Rises Same Unkept = ShelfRises × (Same × Unkept)
 WrittenAnswers answer.NoMemory All Front Bad ShelfRises Rises Same Unkept = Same
 WrittenAnswers (answer.Budget n) All Front Bad ShelfRises Rises Same Unkept = ⊥
-WrittenAnswers answer.Usage All Front Bad ShelfRises Rises Same Unkept = ⊥
+WrittenAnswers (answer.Usage word) All Front Bad ShelfRises Rises Same Unkept = ⊥
 WrittenAnswers (answer.Checked warnings) All Front Bad ShelfRises Rises Same Unkept = ⊥
 WrittenAnswers (answer.Unhandled class site) All Front Bad ShelfRises Rises Same Unkept = ⊥
 WrittenAnswers (answer.UnhandledClass class site) All Front Bad ShelfRises Rises Same Unkept = ⊥
@@ -145,7 +146,7 @@ EndedAnswers (answer.Refused r text) steps Ends Signals Large Breaks Bad ShelfRi
 EndedAnswers answer.FileFault steps Ends Signals Large Breaks Bad ShelfRises SourceRises Rises Same Unkept = ShelfRises × (Same × Unkept)
 EndedAnswers answer.NoMemory steps Ends Signals Large Breaks Bad ShelfRises SourceRises Rises Same Unkept =
     Same ⊎ (((class : ℕ) × ((site : Place) × Ends (endings.Unhandled class site))) ⊎ Breaks)
-EndedAnswers answer.Usage steps Ends Signals Large Breaks Bad ShelfRises SourceRises Rises Same Unkept = ⊥
+EndedAnswers (answer.Usage word) steps Ends Signals Large Breaks Bad ShelfRises SourceRises Rises Same Unkept = ⊥
 EndedAnswers (answer.Checked warnings) steps Ends Signals Large Breaks Bad ShelfRises SourceRises Rises Same Unkept = ⊥
 EndedAnswers (answer.UnhandledClass class site) steps Ends Signals Large Breaks Bad ShelfRises SourceRises Rises Same Unkept = ⊥
 EndedAnswers (answer.BadImage reason) steps Ends Signals Large Breaks Bad ShelfRises SourceRises Rises Same Unkept = ⊥
@@ -220,7 +221,7 @@ pub data Obeys (a : CommandAnswer) (c : Request) (held : Option (List ℕ)) (kep
 
 -- the answer to words, of which a line calls the text so: they are no command, or memory was wanting to tell, or a command was obeyed
 pub data WordsAnswers (a : CommandAnswer) (name : List ℕ) (words : List (List ℕ)) (holds : List ℕ → Option (List ℕ)) (kept : Option Image) (left left' : Option (List ℕ)) (sent : Sent) (ShelfRises SourceRises Rises Same InputSame ShelfSame : Type 0) : Type 0 where
-  was_usage : a ≡ answer.Usage → asked words ≡ None → ShelfSame → Same → InputSame → kept ≡ None
+  was_usage : a ≡ answer.Usage (wrong_word words) → asked words ≡ None → ShelfSame → Same → InputSame → kept ≡ None
       → WordsAnswers a name words holds kept left left' sent ShelfRises SourceRises Rises Same InputSame ShelfSame
   was_untold : a ≡ answer.NoMemory → ShelfSame → Same → InputSame → kept ≡ None
       → WordsAnswers a name words holds kept left left' sent ShelfRises SourceRises Rises Same InputSame ShelfSame

@@ -30,6 +30,7 @@ use Rattle.lang_meaning.specs.declared.evaluation.EvaluationEnd.{EvaluationEnd}
 use Rattle.lang_meaning.specs.declared.evaluation.EvaluationEnd.TheVariants as endings
 use Rattle.lang_meaning.specs.Evaluates.{Evaluates, BreaksOff}
 use Rattle.top_command.specs.Command.{Request, asked}
+use Rattle.top_command.specs.Wrong.{wrong_word}
 use Rattle.top_command.specs.declared.command.Action.{Action}
 use Rattle.top_command.specs.declared.command.Action.TheVariants.{Run, Show, Check, Build, Exec, Plain, Make}
 use Rattle.top_lines.specs.declared.status.Status.{Status}
@@ -385,10 +386,10 @@ pub record IsBadImage (words : List (List ℕ)) (holds : List ℕ → Option (Li
 
 -- The status of words alone
 
--- Usage: the words are no command
+-- Usage: the words are no command; the line tells the first that is wrong, where one is
 pub record IsUsage (words : List (List ℕ)) (said said' : Option (List ℕ)) : Type 0 where
   pub asked_for : asked words ≡ None
-  pub line : WasGiven said usage_line said'
+  pub line : WasGiven said (usage_line (wrong_word words)) said'
 
 -- What actions never do
 

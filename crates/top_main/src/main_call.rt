@@ -5,9 +5,10 @@ ghost use Rattle.std.specs.String.{string_bytes};
 ghost use Rattle.base.specs.Outside.{Rose};
 ghost use Rattle.base.specs.Given.{WasGiven};
 ghost use Rattle.top_command.specs.Command.{Request, asked as asked_of, parts_of};
+ghost use Rattle.top_command.specs.Wrong.{wrong_word as wrong_of};
 ghost use Rattle.top_lines.specs.Lines.{line_of, status_of, file_fault_line, no_memory_line};
 ghost use Rattle.top_lines.specs.declared.status.CommandAnswer.{CommandAnswer as AnswerValue};
-ghost use Rattle.top_lines.specs.declared.status.CommandAnswer.TheVariants.{WriteFault as AnswerCut};
+ghost use Rattle.top_lines.specs.declared.status.CommandAnswer.TheVariants.{WriteFault as AnswerCut, Usage as UsageOf, NoMemory as AnswerWants};
 ghost use Rattle.top_lines.specs.declared.status.Status.TheVariants.{Done, Unhandled, Usage, Refused, ArenaFull, Budget, FileFault, ReadFault, WriteFault, NoMemory as WantsMemory, BadImage, Trap};
 ghost use Rattle.top_exec.specs.Runs.{sent_to};
 ghost use Rattle.top_main.specs.Theorem.{IsUsage, IsDone, IsWritten, IsUnhandled, IsArenaFull, IsTooLarge, IsBudget, IsSpent, IsRefused, IsReadFault, IsCutOff, IsWrittenCutOff, IsUnnamed, IsBroken, IsUntold, IsExecuted, IsExecutedSo, IsExecutedUntold, IsLargeImage, IsBadImage, ReadsNothing, KeepsNothing, MakesText, name_in as name_of_asked};
@@ -22,7 +23,7 @@ use crate::plain::plain_file;
 use crate::run::run_file;
 use base::{Failed, NoMemory, Shelf, Sink, Source, Words, write_all};
 use std::alloc::Global;
-use top_command::{Action, Command, asked};
+use top_command::{Action, Command, asked, wrong_word};
 use top_exec::{Bounds, exec_file};
 use top_lines::{CommandAnswer, Status, end_with};
 
@@ -215,12 +216,22 @@ fn answer_to<F: Shelf, S: Source, O: Sink>(
         }
         Ok(None) => Answered {
             command: None,
-            answer: CommandAnswer::Usage,
+            answer: usage(alloc, words),
         },
         Err(NoMemory) => Answered {
             command: None,
             answer: CommandAnswer::NoMemory,
         },
+    }
+}
+
+// The answer to words that are no command; to tell which is wrong takes memory.
+fn usage(alloc: Global, words: &Words) -> CommandAnswer
+    ensures { (result ≡ UsageOf (wrong_of words.now)) ⊎ (result ≡ AnswerWants) }
+{
+    match wrong_word(alloc, words) {
+        Ok(word) => CommandAnswer::Usage(word),
+        Err(NoMemory) => CommandAnswer::NoMemory,
     }
 }
 
