@@ -1,6 +1,6 @@
 // The words of the command line.
 
-ghost use Rattle.std.specs.Prelude.{◌≡◌, ◌⊎◌, drop, map, string_bytes, IfOk, IfErr};
+ghost use Rattle.std.specs.Prelude.{◌≡◌, ◌⊎◌, drop, map, string_bytes, None, IfOk, IfErr};
 ghost use Rattle.std.specs.Vec.Iter.{into_iter_items};
 ghost use Rattle.top_lines.specs.declared.status.CommandAnswer.TheVariants.{Usage, NoMemory as WantsMemory};
 
@@ -15,12 +15,12 @@ use top_main::CommandAnswer;
 /// The words behind the program's name. Else the answer of the call: `Usage` where one of them is not
 /// UTF-8; `NoMemory` where memory is wanting. The name is not looked at, so it may have any bytes.
 pub fn command_words<R: Env + AllocGlobal>(rt: &R) -> Result<Words, CommandAnswer>
-    ensures { IfErr result (λ answer. (answer ≡ Usage) ⊎ (answer ≡ WantsMemory)) }
+    ensures { IfErr result (λ answer. (answer ≡ Usage None) ⊎ (answer ≡ WantsMemory)) }
 {
     match env::args(&(Unnamed { whole: rt }, rt.alloc())) {
         Ok(args) => words_behind_name(rt.alloc(), args),
         Err(e) if e.kind() == ErrorKind::OutOfMemory => Err(CommandAnswer::NoMemory),
-        Err(_) => Err(CommandAnswer::Usage),
+        Err(_) => Err(CommandAnswer::Usage(None)),
     }
 }
 
