@@ -11,6 +11,9 @@ use Rattle.flat_language.specs.FlatMeaning.{flat_meaning}
 use Rattle.flat_language.specs.Flatten.{flat_program}
 use Rattle.flat_language.specs.Law.{SameRun}
 use Rattle.base.specs.Given.{WasGiven}
+use Rattle.lang_alike.specs.Alike.{StoresAlike}
+use Rattle.lang_told.specs.Ends.{TellsEnd}
+use Rattle.lang_told.specs.Laws.{LawOfAlikeTellings}
 use Rattle.eval_machine.specs.Configuration.{Setting, Control, evaluate, signals, come_to, ContinuationFrame, Configuration}
 use Rattle.eval_machine.specs.Step.{control_step}
 use Rattle.eval_machine.specs.Run.{begins, IsEnd, outcome_of, done}
@@ -22,8 +25,9 @@ use Rattle.lang_meaning.specs.Evaluation.{Evaluation, meaning_with, end_for, end
 use Rattle.lang_meaning.specs.Evaluates.{most_forms, HasEnded, IsCutOff, IsSpent, ReadsOn, EndsSo, Evaluates, BreaksOff}
 use Rattle.eval_run.specs.declared.answer.Counted.{Counted}
 use Rattle.eval_run.specs.Moments.{setting_of, configuration_after, forms_after}
-use Rattle.eval_run.specs.UnderWay.{StopsAt, SpentAt, WantsAt, CutOffAt, ComesTo, HasRun, HasCounted, HasBroken}
+use Rattle.eval_run.specs.UnderWay.{StopsAt, SpentAt, WantsAt, CutOffAt, ComesTo, HasRun, HasCounted, HasBroken, IsToldAt}
 use Rattle.eval_run.specs.Units.{CountsSo, Counts}
+use Rattle.eval_run.specs.Telling.{TellsSo, EvaluationTells}
 use Rattle.eval_run.proofs.Coming.{forms_more}
 use Rattle.eval_run.proofs.Counting.{printed_up_to_end, left_up_to_end, units_up_to_end}
 
@@ -38,6 +42,8 @@ pub record Known (e : Evaluation) : Type 0 where
   pub reading : LawOfReading
   pub units : LawOfUnits
   pub full : LawOfWords
+  pub tellings : LawOfAlikeTellings
+  pub alike : (input : List ℕ) → StoresAlike (meaning_with e input).store (flat_meaning e.names (flat_program e.program) input e.levels (words e.words)).store
   pub same : (input : List ℕ) → SameRun (meaning_with e input) (flat_meaning e.names (flat_program e.program) input e.levels (words e.words))
 
 -- a machine that has ended has done what the program means
@@ -203,4 +209,24 @@ counts e known left left' given given' c h = record {
   was_taken = h.has_run.was_taken;
   units = λ input b. subst (λ n. CountsSo c.end e input n) h.units
       (counts_there e known c.end h.has_run.units h.has_run.taken input b given given' (h.has_run.comes input b));
+}
+
+-- what is told where the machine has ended is told of the program's meaning: the flat program leaves an alike store
+tells_there : (e : Evaluation) → Known e → (end : EvaluationEnd) (input told : List ℕ) → IsToldAt end e input told → TellsSo end e input told
+tells_there e known (endings.Unhandled class site) input told h =
+    let P : Meant → Type 0 = λ m. TellsEnd e.names e.program m told in
+    let there : P (flat_with e input) = subst P (done_so e known input h.count h.stops) h.tells in
+    record {
+      condition = there.condition;
+      place = there.place;
+      end = sym (known.same input).end ∙ there.end;
+      tells = (known.tellings e.names e.program.classes (meaning_with e input).store (flat_with e input).store there.condition told (known.alike input)).1 there.tells;
+    }
+tells_there e known end input told h = h
+
+pub tells : (e : Evaluation) → Known e → (left left' given given' : Option (List ℕ)) (c : Counted) → HasCounted e left left' given given' c → EvaluationTells e left left' c
+tells e known left left' given given' c h = record {
+  taken = h.has_run.taken;
+  was_taken = h.has_run.was_taken;
+  tells = λ input b. tells_there e known c.end input c.told (h.told input b);
 }

@@ -76,36 +76,36 @@ outset_of names rows levels w left given g store v made limit ready sizes dispat
     outset names rows levels w left given g store v made limit known ready.laid_out h
 
 -- what a run of the evaluator comes to, the run of the flat program comes to
-module _ (g : Given) (store : Store) (levels w : ℕ) (v : Evaluator) (limit : g.limit ≡ Some w) (sizes : AreSizes g.program.now g.sizes.now)
+module _ (names : List (List ℕ)) (g : Given) (store : Store) (levels w : ℕ) (v : Evaluator) (limit : g.limit ≡ Some w) (sizes : AreSizes g.program.now g.sizes.now)
     (dispatch : AreTablesOf (with_classes g.program.now.classes) g.program.now.generics g.tables.now) (h : IsStarted g store levels v)
     (left left' given given' : Option (List ℕ)) where
   pub run_ends : (r : Result Counted Stop)
-      → IfOk r (λ c. (e : Evaluation) → UnderWay e left left given given 0 v → HasCounted e left left' given given' c)
-      → IfOk r (λ c. (names : List (List ℕ)) → IsReady names g.program.now g.spellings g.layout.now g.primitives.now store
+      → IfOk r (λ c. (e : Evaluation) → e.names ≡ names → UnderWay e left left given given 0 v → HasCounted e left left' given given' c)
+      → IfOk r (λ c. IsReady names g.program.now g.spellings g.layout.now g.primitives.now store
       → FlatRuns names g.program.now levels w left left' given given' c)
-  run_ends (Ok c) run = λ names ready rows made. run (record { names = names; program = rows; levels = levels; words = w })
+  run_ends (Ok c) run = λ ready rows made. run (record { names = names; program = rows; levels = levels; words = w }) refl
       (outset_of names rows levels w left given g store v made limit ready sizes dispatch h)
   run_ends (Err s) run = tt
 
   pub run_stops : (r : Result Counted Stop)
       → IfErr r (λ s. (e : Evaluation) → UnderWay e left left given given 0 v → StopsSo s e left left' given given')
-      → IfErr r (λ s. (names : List (List ℕ)) → IsReady names g.program.now g.spellings g.layout.now g.primitives.now store
+      → IfErr r (λ s. IsReady names g.program.now g.spellings g.layout.now g.primitives.now store
       → FlatStops names g.program.now levels w left left' given given' s)
   run_stops (Ok c) run = tt
-  run_stops (Err s) run = λ names ready rows made. run (record { names = names; program = rows; levels = levels; words = w })
+  run_stops (Err s) run = λ ready rows made. run (record { names = names; program = rows; levels = levels; words = w })
       (outset_of names rows levels w left given g store v made limit ready sizes dispatch h)
 
 -- and so with the names that it has
 module _ (names : List (List ℕ)) (program : FlatProgram) (spellings : Spellings) (layout : InitialHeap) (primitives : Primitives) (store : Store)
     (ready : IsReady names program spellings layout primitives store) (levels w : ℕ) (left left' given given' : Option (List ℕ)) where
   pub ends_with : (r : Result Counted Stop)
-      → IfOk r (λ c. (ns : List (List ℕ)) → IsReady ns program spellings layout primitives store → FlatRuns ns program levels w left left' given given' c)
+      → IfOk r (λ c. IsReady names program spellings layout primitives store → FlatRuns names program levels w left left' given given' c)
       → IfOk r (FlatRuns names program levels w left left' given given')
-  ends_with (Ok c) run = run names ready
+  ends_with (Ok c) run = run ready
   ends_with (Err s) run = tt
 
   pub stops_with : (r : Result Counted Stop)
-      → IfErr r (λ s. (ns : List (List ℕ)) → IsReady ns program spellings layout primitives store → FlatStops ns program levels w left left' given given' s)
+      → IfErr r (λ s. IsReady names program spellings layout primitives store → FlatStops names program levels w left left' given given' s)
       → IfErr r (FlatStops names program levels w left left' given given')
   stops_with (Ok c) run = tt
-  stops_with (Err s) run = run names ready
+  stops_with (Err s) run = run ready

@@ -3,7 +3,11 @@ use Rattle.std.proofs.Common.{◌≡◌, ◌≤◌, ℕ, true, false, List, [], 
 use Rattle.std.specs.Prelude.{⊤, IfSome}
 use Rattle.lang_meaning.specs.Meaning.{Meant, Ending, with_value, by_class, for_words, for_levels, ending_of}
 use Rattle.base.specs.Given.{WasGiven, WasGivenFront}
-use Rattle.eval_machine.specs.Configuration.{Configuration}
+use Rattle.flat_language.specs.FlatNodes.{tables}
+use Rattle.lang_meaning.specs.declared.program.ProgramRows.{ProgramRows}
+use Rattle.lang_told.specs.Told.{Tells}
+use Rattle.lang_told.specs.Ends.{TellsEnd}
+use Rattle.eval_machine.specs.Configuration.{Setting, Configuration}
 use Rattle.eval_machine.specs.Run.{begins, IsEnd, done}
 use Rattle.eval_machine.specs.RunLaws.{printed_at, units_at}
 use Rattle.eval_store.specs.View.{Beside}
@@ -22,7 +26,8 @@ use Rattle.lang_meaning.specs.Evaluation.{Evaluation, end_for, end_of, Taken, Be
 use Rattle.lang_meaning.specs.Evaluates.{most_forms}
 use Rattle.eval_run.specs.declared.answer.Counted.{Counted}
 use Rattle.eval_run.specs.Moments.{setting_of, configuration_after, forms_after, wants_byte}
-use Rattle.eval_run.specs.UnderWay.{HasCome, UnderWay, StopsAt, CutOffAt, ComesTo, HasRun, HasCounted, HasBroken, IsOwnEnd, untold}
+use Rattle.eval_run.specs.Telling.{TellsOf}
+use Rattle.eval_run.specs.UnderWay.{RunsFor, IsToldAt, HasCome, UnderWay, StopsAt, CutOffAt, ComesTo, HasRun, HasCounted, HasBroken, IsOwnEnd, untold}
 use Rattle.eval_run.proofs.Coming.{runs_as, nowhere}
 
 -- bytes were given, and then others
@@ -138,12 +143,41 @@ comes_to w units e t input b given given' h s = s
 few : (a b c : ℕ) → a ≡ b → b ≤ c → a ≤ c
 few a b c e h = omega arith
 
--- the machine has ended, and so many units were counted
-pub ended : (e : Evaluation) (left left' given given' : Option (List ℕ)) (forms : ℕ) (v : Evaluator) (c : Counted) → forms ≤ most_forms
+-- it is told of a program with these classes
+told_with :
+    (names : List (List ℕ)) (one other : ProgramRows) (m : Meant) (told : List ℕ) → one.classes ≡ other.classes → TellsEnd names one m told
+    → TellsEnd names other m told
+told_with names one other m told same h = record {
+  condition = h.condition;
+  place = h.place;
+  end = h.end;
+  tells = subst (λ cs. Tells names cs m.store h.condition told) same h.tells;
+}
+
+-- what is told of the end of the evaluator is told where the machine has ended
+told_at :
+    (end : EvaluationEnd) (e : Evaluation) (names : List (List ℕ)) (v : Evaluator) (input told : List ℕ) (count : ℕ) (b : Beside) → e.names ≡ names
+    → RunsFor e v → configuration_of e.names v.machine b ≡ configuration_after e input count → IsEnd (setting_of e) (configuration_after e input count)
+    → TellsOf end names (tables v.machine.given.program.now) (done (configuration_of names v.machine b)) told → IsToldAt end e input told
+told_at (endings.Unhandled class site) e names v input told count b same runs is stops h =
+    let rows : ProgramRows = tables v.machine.given.program.now in
+    let P : List (List ℕ) → Type 0 = λ ns. TellsEnd ns rows (done (configuration_of ns v.machine b)) told in
+    let Q : Configuration → Type 0 = λ m. TellsEnd e.names rows (done m) told in
+    record {
+      count = count;
+      stops = stops;
+      tells = told_with e.names rows e.program (done (configuration_after e input count)) told (ap (λ (s : Setting). s.program.classes) runs.setting)
+          (subst Q is (subst P (sym same) h));
+    }
+told_at end e names v input told count b same runs is stops h = h
+
+-- the machine has ended, so many units were counted, and that is told of its end
+pub ended : (e : Evaluation) (left left' given given' : Option (List ℕ)) (forms : ℕ) (v : Evaluator) (names : List (List ℕ)) (c : Counted) → e.names ≡ names → forms ≤ most_forms
     → v.printed.items ≡ [] → StopsBecause v false → ((names : List (List ℕ)) (b : Beside) → end_of (done (configuration_of names v.machine b)) ≡ c.end)
     → ((names : List (List ℕ)) (b : Beside) → units_at (configuration_of names v.machine b) ≡ c.units)
+    → ((b : Beside) → TellsOf c.end names (tables v.machine.given.program.now) (done (configuration_of names v.machine b)) c.told)
     → UnderWay e left left' given given' forms v → HasCounted e left left' given given' c
-ended e left left' given given' forms v c h none stopped is units u = record {
+ended e left left' given given' forms v names c same h none stopped is units tells u = record {
   has_run = record {
     taken = u.taken;
     was_taken = u.was_taken;
@@ -163,6 +197,10 @@ ended e left left' given given' forms v c h none stopped is units u = record {
         });
   };
   units = refl;
+  told = λ input b.
+      let a : IsAtConfiguration e.names v u.written b.rest (configuration_after e input u.count) = (u.comes input b).is_at in
+      told_at c.end e names v input c.told u.count a.beside same u.runs a.is
+      (subst (λ (x : Configuration). IsEnd (setting_of e) x) a.is (stopped e.names (setting_of e) a.beside)) (tells a.beside);
 }
 
 -- another form is to begin, after so many
@@ -187,6 +225,7 @@ spent e left left' given given' forms v h none stopped u = record {
         );
   };
   units = refl;
+  told = λ input b. refl;
 }
 
 -- a step that reads wants a byte

@@ -1,14 +1,17 @@
 -- What is answered is told from how the run ended: a stop by a fault is an end, and want of memory breaks off.
-use Rattle.std.proofs.Common.{◌≡◌, ℕ, List, Option, Some, None, Result, Ok, Err, IfOk, IfErr, OnErr, MatchResult, refl, sym, subst}
+use Rattle.std.proofs.Common.{◌≡◌, ℕ, true, List, Option, Some, None, Result, Ok, Err, IfOk, IfErr, OnErr, MatchResult, refl, sym, subst}
 use Rattle.base.specs.declared.faults.NoMemory.{NoMemory as MemoryFault}
 use Rattle.lang_meaning.specs.declared.program.ProgramRows.{ProgramRows}
 use Rattle.lang_meaning.specs.State as state
 use Rattle.lang_meaning.specs.State.{Limit}
+use Rattle.lang_meaning.specs.Facts.{is_whole}
 use Rattle.lang_meaning.specs.Meaning.{meaning}
 use Rattle.flat_language.specs.declared.program.FlatProgram.{FlatProgram}
 use Rattle.flat_language.specs.FlatMeaning.{flat_meaning}
 use Rattle.flat_language.specs.Flatten.{flat_program}
 use Rattle.flat_language.specs.Law.{SameRun}
+use Rattle.flat_stores.specs.Laws.{LawOfStores}
+use Rattle.lang_told.specs.Laws.{LawOfAlikeTellings}
 use Rattle.eval_machine.specs.Law.{LawOfMachine}
 use Rattle.eval_machine.specs.RunLaws.{LawOfPrinting, LawOfReading, LawOfUnits, LawOfWords}
 use Rattle.lang_meaning.specs.declared.evaluation.EvaluationEnd.{EvaluationEnd}
@@ -20,7 +23,8 @@ use Rattle.lang_meaning.specs.Evaluation.{Evaluation}
 use Rattle.lang_meaning.specs.Evaluates.{Evaluates, BreaksOff, Tells}
 use Rattle.eval_run.specs.UnderWay.{HasRun, HasCounted, StopsSo, StopTells, IsOwnEnd, untold, end_told}
 use Rattle.eval_run.specs.Units.{Counts}
-use Rattle.eval_run.proofs.Meant.{Known, evaluated, counts, broken}
+use Rattle.eval_run.specs.Telling.{EvaluationTells}
+use Rattle.eval_run.proofs.Meant.{Known, evaluated, counts, tells, broken}
 
 -- the end that is told
 abbrev EndIsTold : Result Counted Stop → Result Counted MemoryFault → Type 0
@@ -54,15 +58,18 @@ faults_told (Err stop.WriteFault) (Ok c') SourceRises SinkRises own stops h =
     subst (λ (x : Counted). Tells x.end SourceRises SinkRises) (same_end (untold endings.WriteFault) c' h) stops
 
 -- what is known of the program where it was made flat
-pub known_of : (e : Evaluation) (flat : FlatProgram) → LawOfMachine → LawOfPrinting → LawOfReading → LawOfUnits → LawOfWords → flat ≡ flat_program e.program
+pub known_of : (e : Evaluation) (flat : FlatProgram) → LawOfMachine → LawOfPrinting → LawOfReading → LawOfUnits → LawOfWords → LawOfStores → LawOfAlikeTellings → is_whole e.program ≡ true
+    → flat ≡ flat_program e.program
     → ((names : List (List ℕ)) (input : List ℕ) (k : ℕ) (limit : Limit) → SameRun (meaning names e.program input k limit) (flat_meaning names flat input k limit))
     → Known e
-known_of e flat machine printing reading units full made same = record {
+known_of e flat machine printing reading units full stores tellings whole made same = record {
   machine = machine;
   printing = printing;
   reading = reading;
   units = units;
   full = full;
+  tellings = tellings;
+  alike = λ input. stores e.names e.program whole input e.levels (state.words e.words);
   same = λ input.
       let limit : Limit = state.words e.words in
       subst (λ (p : FlatProgram). SameRun (meaning e.names e.program input e.levels limit) (flat_meaning e.names p input e.levels limit)) made
@@ -80,17 +87,19 @@ module _ (e : Evaluation) (known : Known e) (flat : FlatProgram) (made : flat �
   abbrev Stopped : Stop → Type 0
   Stopped s = (rows : ProgramRows) → flat ≡ flat_program rows → StopsSo s (of_rows e rows) left left' given given'
 
-  -- of a run that a fault ended no units are told
+  -- of a run that a fault ended nothing is told
   read_untold : HasRun e left left' given given' endings.ReadFault → HasCounted e left left' given given' (untold endings.ReadFault)
   read_untold run = record {
     has_run = record { taken = run.taken; was_taken = run.was_taken; units = 0; comes = λ input b. (refl, (run.comes input b).1) };
     units = refl;
+    told = λ input b. refl;
   }
 
   write_untold : HasRun e left left' given given' endings.WriteFault → HasCounted e left left' given given' (untold endings.WriteFault)
   write_untold run = record {
     has_run = record { taken = run.taken; was_taken = run.was_taken; units = 0; comes = λ input b. (refl, (run.comes input b).1) };
     units = refl;
+    told = λ input b. refl;
   }
 
   so_run : (c c' : Counted) → HasCounted e left left' given given' c → Some c ≡ Some c' → HasCounted e left left' given given' c'
@@ -113,6 +122,10 @@ module _ (e : Evaluation) (known : Known e) (flat : FlatProgram) (made : flat �
   pub units_told : (result : Result Counted MemoryFault) → IfOk result (HasCounted e left left' given given') → IfOk result (Counts e left left')
   units_told (Err f) h = tt
   units_told (Ok c) h = counts e known left left' given given' c h
+
+  pub tells_told : (result : Result Counted MemoryFault) → IfOk result (HasCounted e left left' given given') → IfOk result (EvaluationTells e left left')
+  tells_told (Err f) h = tt
+  tells_told (Ok c) h = tells e known left left' given given' c h
 
   pub breaks_told : (ended : Result Counted Stop) (result : Result Counted MemoryFault) → IfErr ended Stopped → EndIsTold ended result
       → OnErr result (BreaksOff e left left' given given')

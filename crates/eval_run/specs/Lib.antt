@@ -3,3 +3,4 @@ pub mod Moments
 pub mod UnderWay
 pub mod FlatRun
 pub mod Units
+pub mod Telling

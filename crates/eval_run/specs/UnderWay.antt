@@ -15,6 +15,7 @@ use Rattle.eval_run.specs.declared.stop.Stop.{Stop}
 use Rattle.eval_run.specs.declared.stop.Stop.TheVariants as stop
 use Rattle.lang_meaning.specs.Evaluation.{Evaluation, end_of, Taken, Begins, WasTaken}
 use Rattle.lang_meaning.specs.Evaluates.{most_forms}
+use Rattle.lang_told.specs.Ends.{TellsEnd}
 use Rattle.eval_run.specs.Moments.{setting_of, configuration_after, forms_after, wants_byte}
 
 -- the evaluator runs that program
@@ -87,10 +88,22 @@ pub record HasRun (e : Evaluation) (left left' given given' : Option (List ℕ))
   pub units : ℕ
   pub comes : (input : List ℕ) (b : Begins taken input) → ComesTo end units e taken input b given given'
 
--- such a run with the units that it counted
+-- what is told where the machine has ended
+pub record TellsAt (e : Evaluation) (input told : List ℕ) : Type 0 where
+  pub count : ℕ
+  pub stops : IsEnd (setting_of e) (configuration_after e input count)
+  pub tells : TellsEnd e.names e.program (done (configuration_after e input count)) told
+
+-- of a condition that no handler took; nothing of any other end
+abbrev pub IsToldAt : EvaluationEnd → (e : Evaluation) (input told : List ℕ) → Type 0
+IsToldAt (endings.Unhandled class site) e input told = TellsAt e input told
+IsToldAt end e input told = told ≡ []
+
+-- such a run with the units that it counted, and with what is told of its end
 pub record HasCounted (e : Evaluation) (left left' given given' : Option (List ℕ)) (c : Counted) : Type 0 where
   pub has_run : HasRun e left left' given given' c.end
   pub units : has_run.units ≡ c.units
+  pub told : (input : List ℕ) → Begins has_run.taken input → IsToldAt c.end e input c.told
 
 pub record HasBroken (e : Evaluation) (left left' given given' : Option (List ℕ)) : Type 0 where
   pub taken : Taken
@@ -114,9 +127,9 @@ IsOwnEnd endings.ReadFault = ⊥
 IsOwnEnd endings.WriteFault = ⊥
 IsOwnEnd end = ⊤
 
--- an end of which no units are told
+-- an end of which nothing is told
 abbrev pub untold : EvaluationEnd → Counted
-untold end = record { end = end; units = 0 }
+untold end = record { end = end; units = 0; told = [] }
 
 -- a stop by a fault is one; want of memory is no end
 abbrev pub end_told : Result Counted Stop → Option Counted

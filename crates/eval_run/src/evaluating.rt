@@ -3,17 +3,20 @@
 ghost use Rattle.std.specs.Prelude.{◌≡◌, Some, None, IfOk, OnErr, MatchResult};
 ghost use Rattle.base.specs.Outside.{Rose};
 ghost use Rattle.lang_meaning.specs.Evaluates.{Evaluates, BreaksOff, Tells};
-ghost use Rattle.eval_run.specs.UnderWay.{HasRun, HasCounted, end_told, untold};
+ghost use Rattle.eval_run.specs.UnderWay.{HasRun, HasCounted, end_told};
 ghost use Rattle.eval_run.specs.Units.{Counts};
+ghost use Rattle.eval_run.specs.Telling.{EvaluationTells};
 
-use crate::answer::Counted;
+use crate::answer::{Counted, untold};
 use crate::setting_up::run_flat;
 use crate::stop::Stop;
 use base::{Names, NoMemory, Sink, Source};
 use eval_machine::laws::law_machine;
 use eval_machine::run_laws::{law_printing, law_reading, law_units, law_words};
 use flat_conversion::flatten;
+use flat_stores::law_stores;
 use lang_meaning::{EvaluationEnd, Program};
+use lang_told::law_alike_tellings;
 use std::alloc::Global;
 
 /// Evaluates a program with these names by its meaning (ISO/IEC 13816:2007, 12 to 29), within so many levels and words: reads of
@@ -46,7 +49,8 @@ pub fn evaluate<S: Source, K: Sink>(
 
 /// The same as `evaluate`, and how many units the evaluation counted: where it came to an end of its own (a value, a condition that
 /// is not handled, too few words or levels) those of the meaning, and 0 where it is `Spent` or a fault ended it. They are those of the
-/// configuration of the machine at which the run stopped, too (`runs`).
+/// configuration of the machine at which the run stopped, too (`runs`). Of a condition that no handler took its slots are told, by the
+/// objects that the program's meaning leaves; of every other end nothing (`tells`). Where memory is wanting for that, all was printed.
 pub fn evaluate_counted<S: Source, K: Sink>(
     alloc: Global,
     program: &Program,
@@ -61,6 +65,7 @@ pub fn evaluate_counted<S: Source, K: Sink>(
     ensures runs { IfOk result (HasCounted (record { names = names.now; program = program.now; levels = levels; words = words })
         (S.left source.old) (S.left source.new) (K.given sink.old) (K.given sink.new)) }
     ensures units { IfOk result (Counts (record { names = names.now; program = program.now; levels = levels; words = words }) (S.left source.old) (S.left source.new)) }
+    ensures tells { IfOk result (EvaluationTells (record { names = names.now; program = program.now; levels = levels; words = words }) (S.left source.old) (S.left source.new)) }
     ensures fault { IfOk result (λ counted. Tells counted.end (Rose (S.faults source.old) (S.faults source.new)) (Rose (K.faults sink.old) (K.faults sink.new))) }
     ensures breaks_off { OnErr result (BreaksOff (record { names = names.now; program = program.now; levels = levels; words = words })
         (S.left source.old) (S.left source.new) (K.given sink.old) (K.given sink.new)) }
@@ -70,28 +75,23 @@ pub fn evaluate_counted<S: Source, K: Sink>(
     law_reading();
     law_units();
     law_words();
+    law_stores();
+    law_alike_tellings();
     let _rows = program.rows();
     let flat = flatten(alloc, program)?;
     let ended = run_flat(alloc, &flat, names, levels, words, source, sink);
     drop(flat);
-    end_of(ended)
+    end_of(alloc, ended)
 }
 
 // A stop by a fault is an end.
-fn end_of(ended: Result<Counted, Stop>) -> Result<Counted, NoMemory>
+fn end_of(alloc: Global, ended: Result<Counted, Stop>) -> Result<Counted, NoMemory>
     ensures { MatchResult result (λ counted. end_told ended ≡ Some counted) (λ _. end_told ended ≡ None) }
 {
     match ended {
         Ok(counted) => Ok(counted),
-        Err(Stop::ReadFault) => Ok(untold(EvaluationEnd::ReadFault)),
-        Err(Stop::WriteFault) => Ok(untold(EvaluationEnd::WriteFault)),
+        Err(Stop::ReadFault) => Ok(untold(alloc, EvaluationEnd::ReadFault)),
+        Err(Stop::WriteFault) => Ok(untold(alloc, EvaluationEnd::WriteFault)),
         Err(Stop::NoMemory) => Err(NoMemory),
     }
-}
-
-// An end of which no units are told.
-fn untold(end: EvaluationEnd) -> Counted
-    ensures { result ≡ untold end }
-{
-    Counted { end, units: 0 }
 }

@@ -11,25 +11,26 @@ ghost use Rattle.lang_meaning.specs.Evaluation.{Evaluation};
 ghost use Rattle.lang_meaning.specs.Evaluates.{most_forms};
 ghost use Rattle.eval_run.specs.UnderWay.{UnderWay, HasCounted, IsOwnEnd, StopsSo, StopTells};
 
-use crate::answer::Counted;
+use crate::answer::{Counted, untold};
 use crate::end::counted_at;
 use crate::feeding::feed;
 use crate::stop::Stop;
 use crate::writing::{write_much, write_printed};
-use base::{Sink, Source};
+use base::{Names, Sink, Source};
 use eval_step::evaluator::Evaluator;
 use lang_meaning::EvaluationEnd;
 
 // So many forms may begin.
 const MOST_FORMS: u64 = 9_223_372_036_854_775_808;
 
-/// Runs an evaluation from its start to its end, or until 2^63 forms have begun and another one is to begin.
+/// Runs the evaluation of a program with these names from its start to its end, or until 2^63 forms have begun and another one is to begin.
 pub(crate) fn run<S: Source, K: Sink>(
     evaluator: &mut Evaluator<'_>,
+    names: &Names,
     source: &mut S,
     sink: &mut K,
 ) -> Result<Counted, Stop>
-    ensures ends { IfOk result (λ counted. (e : Evaluation)
+    ensures ends { IfOk result (λ counted. (e : Evaluation) → e.names ≡ names.now
         → UnderWay e (S.left source.old) (S.left source.old) (K.given sink.old) (K.given sink.old) 0 evaluator.old
         → HasCounted e (S.left source.old) (S.left source.new) (K.given sink.old) (K.given sink.new) counted) }
     ensures own { IfOk result (λ counted. IsOwnEnd counted.end) }
@@ -43,7 +44,7 @@ pub(crate) fn run<S: Source, K: Sink>(
     for _ in 0..MOST_FORMS {
         let more = to_form(evaluator)?;
         if !more {
-            return finish(evaluator, sink);
+            return finish(evaluator, names, sink);
         }
         feed(evaluator, source, sink)?;
         begin(evaluator)?;
@@ -51,13 +52,11 @@ pub(crate) fn run<S: Source, K: Sink>(
     }
     let more = to_form(evaluator)?;
     if !more {
-        return finish(evaluator, sink);
+        return finish(evaluator, names, sink);
     }
     write_printed(evaluator, sink)?;
-    Ok(Counted {
-        end: EvaluationEnd::Spent,
-        units: 0,
-    })
+    let alloc = evaluator.machine.given.alloc;
+    Ok(untold(alloc, EvaluationEnd::Spent))
 }
 
 // Steps up to the next form, or to the end; whether there is a form.
@@ -91,10 +90,14 @@ fn begin(evaluator: &mut Evaluator<'_>) -> Result<(), Stop>
     Ok(())
 }
 
-// All that was printed is written at the end; the end, and the units.
-fn finish<K: Sink>(evaluator: &mut Evaluator<'_>, sink: &mut K) -> Result<Counted, Stop>
+// All that was printed is written at the end; the end, the units, and what is told of a condition.
+fn finish<K: Sink>(
+    evaluator: &mut Evaluator<'_>,
+    names: &Names,
+    sink: &mut K,
+) -> Result<Counted, Stop>
     requires ended { StopsBecause evaluator.old false }
-    ensures ends { IfOk result (λ counted. (e : Evaluation) (left left' given : Option (List ℕ)) (forms : ℕ) → forms ≤ most_forms
+    ensures ends { IfOk result (λ counted. (e : Evaluation) (left left' given : Option (List ℕ)) (forms : ℕ) → e.names ≡ names.now → forms ≤ most_forms
         → UnderWay e left left' given (K.given sink.old) forms evaluator.old
         → HasCounted e left left' given (K.given sink.new) counted) }
     ensures own { IfOk result (λ counted. IsOwnEnd counted.end) }
@@ -105,5 +108,6 @@ fn finish<K: Sink>(evaluator: &mut Evaluator<'_>, sink: &mut K) -> Result<Counte
     ensures count { K.faults sink.old ≤ K.faults sink.new }
 {
     write_printed(evaluator, sink)?;
-    Ok(counted_at(evaluator))
+    let counted = counted_at(evaluator, names)?;
+    Ok(counted)
 }

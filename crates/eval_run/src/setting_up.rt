@@ -1,6 +1,6 @@
 // A flat program is laid out, and run from its start.
 
-ghost use Rattle.std.specs.Prelude.{◌≡◌, ◌≤◌, List, ℕ, IfOk, IfErr};
+ghost use Rattle.std.specs.Prelude.{◌≡◌, ◌≤◌, IfOk, IfErr};
 ghost use Rattle.std.specs.List.{sum_by};
 ghost use Rattle.base.specs.Outside.{Rose};
 ghost use Rattle.lang_meaning.specs.Cells.{generic_cells};
@@ -92,6 +92,7 @@ fn run_laid_out<'p, S: Source, K: Sink>(
     run_fitted(
         alloc,
         program,
+        names,
         spellings,
         layout,
         &primitives,
@@ -109,6 +110,7 @@ fn run_laid_out<'p, S: Source, K: Sink>(
 fn run_fitted<'p, S: Source, K: Sink>(
     alloc: Global,
     program: &'p FlatProgram,
+    names: &'p Names,
     spellings: Spellings,
     layout: &'p InitialHeap,
     primitives: &'p Primitives<'p>,
@@ -122,11 +124,11 @@ fn run_fitted<'p, S: Source, K: Sink>(
 ) -> Result<Counted, Stop>
     requires sizes { AreSizes program.now sizes.now }
     requires dispatch { AreTablesOf (with_classes program.now.classes) program.now.generics tables.now }
-    ensures ends { IfOk result (λ counted. (names : List (List ℕ)) → IsReady names program.now spellings layout.now primitives.now store.entry
-        → FlatRuns names program.now levels words (S.left source.old) (S.left source.new) (K.given sink.old) (K.given sink.new) counted) }
+    ensures ends { IfOk result (λ counted. IsReady names.now program.now spellings layout.now primitives.now store.entry
+        → FlatRuns names.now program.now levels words (S.left source.old) (S.left source.new) (K.given sink.old) (K.given sink.new) counted) }
     ensures own { IfOk result (λ counted. IsOwnEnd counted.end) }
-    ensures stops { IfErr result (λ stop. (names : List (List ℕ)) → IsReady names program.now spellings layout.now primitives.now store.entry
-        → FlatStops names program.now levels words (S.left source.old) (S.left source.new) (K.given sink.old) (K.given sink.new) stop) }
+    ensures stops { IfErr result (λ stop. IsReady names.now program.now spellings layout.now primitives.now store.entry
+        → FlatStops names.now program.now levels words (S.left source.old) (S.left source.new) (K.given sink.old) (K.given sink.new) stop) }
     ensures fault { IfErr result (λ stop. StopTells stop (Rose (S.faults source.old) (S.faults source.new)) (Rose (K.faults sink.old) (K.faults sink.new))) }
 {
     let given = Given {
@@ -140,5 +142,5 @@ fn run_fitted<'p, S: Source, K: Sink>(
         limit: Some(words),
     };
     let mut evaluator = Evaluator::start(given, store, levels)?;
-    run(&mut evaluator, source, sink)
+    run(&mut evaluator, names, source, sink)
 }

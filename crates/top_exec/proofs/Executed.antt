@@ -61,7 +61,7 @@ module _ (held : Option (List ℕ)) (file : IsImageFile held) (arena steps : ℕ
   of_image (answer.BadImage reason) h = absurd h.0
   of_image answer.FileFault h = absurd h.0
   of_image answer.NoMemory h = h
-  of_image (answer.Unhandled class site) h = absurd h
+  of_image (answer.Unhandled class site told) h = absurd h
   of_image (answer.Usage word) h = absurd h
   of_image (answer.Checked warnings) h = absurd h
   of_image (answer.Refused r text) h = absurd h

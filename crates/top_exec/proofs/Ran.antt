@@ -8,7 +8,7 @@ use Rattle.rv_machine.specs.State.{State, Counted, start}
 use Rattle.rv_machine.specs.Step.{environment_call, step_of}
 use Rattle.rv_machine.specs.Run.{Moment, run_from, first, Feeds, Outside, IsNoFault, StandsAt, CutOff}
 use Rattle.top_exec.specs.declared.image_run.ImageEnd.{ImageEnd}
-use Rattle.top_exec.specs.Runs.{sent_to, the_run, SaysAll, RunIsCut, EndsAs, ComesTo, ImageComes}
+use Rattle.top_exec.specs.Runs.{sent_to, the_run, SaysAll, RunIsCut, EndsAs, ComesTo, ImageComes, LeavesState}
 
 -- what the machine says of a run of so many instructions of an image in an arena
 pub record Ran (image : Image) (arena steps : ℕ) (ending : Ending) (old new : Counted) (o o' : Outside) : Type 1 where
@@ -70,3 +70,22 @@ module _ (image : Image) (arena steps : ℕ) (old new : Counted) (o o' : Outside
   -- the run came to the end that was read off the machine
   pub comes : Ran image arena steps e.ending old new o o' → ImageComes image arena steps o.left o'.left (sent_to o.given o.writes o'.given o'.writes) e
   comes r = to e.ending refl r
+
+  -- and left the machine so
+  stood : Ran image arena steps e.ending old new o o' → IsNoFault e.ending → (input : List ℕ) → Feeds o.left input (the_run image arena steps input)
+      → new.state ≡ (the_run image arena steps input).at.state
+  stood r plain input feeds =
+      let there : Feeds o.left input (run_from steps (first old.state input)) = subst (λ (s : State). Feeds o.left input (run_from steps (first s input))) (sym r.began) feeds in
+      (r.stands plain input there).state ∙ ap (λ (s : State). (run_from steps (first s input)).at.state) r.began
+
+  left_so : (ending : Ending) → e.ending ≡ ending → Ran image arena steps e.ending old new o o' → LeavesState ending image arena steps o.left new.state
+  left_so (Halt word) is r = stood r (subst IsNoFault (sym is) tt)
+  left_so (Unhandled class) is r = stood r (subst IsNoFault (sym is) tt)
+  left_so (Full wanted room) is r = stood r (subst IsNoFault (sym is) tt)
+  left_so Budget is r = stood r (subst IsNoFault (sym is) tt)
+  left_so (Trap kind address) is r = stood r (subst IsNoFault (sym is) tt)
+  left_so ReadFault is r = tt
+  left_so WriteFault is r = tt
+
+  pub leaves : Ran image arena steps e.ending old new o o' → LeavesState e.ending image arena steps o.left new.state
+  leaves r = left_so e.ending refl r

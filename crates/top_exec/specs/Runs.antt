@@ -3,6 +3,7 @@ use Rattle.std.specs.Prelude.{◌≡◌, ⊤, ◌<◌, ℕ, List, Option, Some, 
 use Rattle.rv_machine.specs.declared.image.Image.{Image}
 use Rattle.rv_machine.specs.declared.ending.Ending.{Ending}
 use Rattle.rv_machine.specs.declared.ending.Ending.TheVariants.{Budget, ReadFault, WriteFault}
+use Rattle.rv_machine.specs.State.{State}
 use Rattle.rv_machine.specs.Step.{environment_call, step_of}
 use Rattle.rv_machine.specs.Run.{Moment, Ended, run_of, Gave, Feeds}
 use Rattle.top_exec.specs.declared.image_run.ImageEnd.{ImageEnd}
@@ -57,6 +58,13 @@ ComesTo ending image arena steps left left' sent e =
 
 abbrev pub ImageComes : Image → (arena steps : ℕ) → (left left' : Option (List ℕ)) → Sent → ImageEnd → Type 0
 ImageComes image arena steps left left' sent e = ComesTo e.ending image arena steps left left' sent e
+
+-- the state in which the run left the machine, where no fault ended it
+abbrev pub LeavesState : Ending → Image → (arena steps : ℕ) → (left : Option (List ℕ)) → State → Type 0
+LeavesState ReadFault image arena steps left s = ⊤
+LeavesState WriteFault image arena steps left s = ⊤
+LeavesState ending image arena steps left s =
+    (input : List ℕ) → Feeds left input (the_run image arena steps input) → s ≡ (the_run image arena steps input).at.state
 
 -- where the source rose in faults, and where the sink did: what a fault tells
 abbrev pub FaultTells : Ending → (SourceRises SinkRises : Type 0) → Type 0

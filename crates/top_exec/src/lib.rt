@@ -6,5 +6,5 @@ pub mod image_run;
 pub mod loading;
 
 pub use exec::exec_file;
-pub use image_run::{Bounds, ImageEnd, run_image};
+pub use image_run::{Bounds, ImageEnd, ImageRun, run_image, run_machine};
 pub use loading::{LoadStop, load};

@@ -39,9 +39,9 @@ place_in file p = (file ++ codes ":") ++ place_text p
 abbrev pub site_in : (file : List ℕ) → Place → List ℕ
 site_in file p = if p.line == 0 && p.column == 0 then file else place_in file p
 
--- `FILE:LINE:COLUMN: unhandled CLASS`, or `FILE: unhandled CLASS`
-abbrev pub unhandled_line : (file class : List ℕ) → Place → List ℕ
-unhandled_line file class site = line ((site_in file site ++ codes ": unhandled ") ++ class)
+-- `FILE:LINE:COLUMN: unhandled CLASS`, or `FILE: unhandled CLASS`, with what is told of the condition
+abbrev pub unhandled_line : (file class : List ℕ) → Place → (told : List ℕ) → List ℕ
+unhandled_line file class site told = line (((site_in file site ++ codes ": unhandled ") ++ class) ++ told)
 
 -- `FILE:LINE:COLUMN: warning: TEXT`, and such lines one after another
 abbrev pub warning_line : (file : List ℕ) → WarningLine → List ℕ
@@ -121,7 +121,7 @@ no_memory_line = line (codes "no memory")
 abbrev pub line_of : (file : List ℕ) → CommandAnswer → List ℕ
 line_of file answer.Done = []
 line_of file (answer.Checked warnings) = warning_lines file warnings
-line_of file (answer.Unhandled class site) = unhandled_line file class site
+line_of file (answer.Unhandled class site told) = unhandled_line file class site told
 line_of file (answer.Usage word) = usage_line word
 line_of file (answer.Refused r text) = refusal_lines file text r
 line_of file (answer.ArenaFull asked left) = arena_full_line asked left
@@ -138,7 +138,7 @@ line_of file (answer.Trap kind address) = trap_line kind address
 abbrev pub status_of : CommandAnswer → Status
 status_of answer.Done = Done
 status_of (answer.Checked warnings) = Done
-status_of (answer.Unhandled class site) = Unhandled
+status_of (answer.Unhandled class site told) = Unhandled
 status_of (answer.Usage word) = Usage
 status_of (answer.Refused r text) = Refused
 status_of (answer.ArenaFull asked left) = ArenaFull

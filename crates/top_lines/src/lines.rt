@@ -57,8 +57,8 @@ fn write_line<E: Sink>(err: &mut E, file: &[u8], answer: &CommandAnswer) -> Resu
     match answer {
         CommandAnswer::Done | CommandAnswer::WriteFault => Ok(()),
         CommandAnswer::Checked(warnings) => write_warnings(err, file, warnings.as_slice()),
-        CommandAnswer::Unhandled { class, site } => {
-            write_unhandled(err, file, class.as_slice(), *site)
+        CommandAnswer::Unhandled { class, site, told } => {
+            write_unhandled(err, file, class.as_slice(), *site, told.as_slice())
         }
         CommandAnswer::Usage(word) => write_usage(err, word),
         CommandAnswer::Refused { refusal, text } => {
@@ -98,20 +98,22 @@ fn usage_text() -> &'static [u8]
     b"usage: isl [--steps N] [--arena W] run|show|check|build|exec|plain FILE, or make N; isl --help tells more"
 }
 
-// `FILE:LINE:COLUMN: unhandled CLASS`, or `FILE: unhandled CLASS`
+// `FILE:LINE:COLUMN: unhandled CLASS`, or `FILE: unhandled CLASS`, with what is told of the condition
 fn write_unhandled<E: Sink>(
     err: &mut E,
     file: &[u8],
     class: &[u8],
     site: Place,
+    told: &[u8],
 ) -> Result<(), Failed>
-    ensures given { OnOk result (WasGiven (E.given err.old) (unhandled_line file.now class.now site) (E.given err.new)) }
+    ensures given { OnOk result (WasGiven (E.given err.old) (unhandled_line file.now class.now site told.now) (E.given err.new)) }
     ensures fault { OnErr result (Rose (E.faults err.old) (E.faults err.new)) }
     ensures count { E.faults err.old ≤ E.faults err.new }
 {
     write_site_in(err, file, site)?;
     write_all(err, b": unhandled ")?;
     write_all(err, class)?;
+    write_all(err, told)?;
     write_all(err, b"\n")
 }
 

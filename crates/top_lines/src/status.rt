@@ -71,22 +71,35 @@ pub struct WarningLine {
 /// What the forms of a file are warned of.
 pub type WarningLines = ItemList<WarningLine>;
 
-/// A status with what its line tells: the name of the class of a condition, and the place of the form that
-/// signalled it, or 0:0; why and where the file is refused, and its text; how many words were asked for, and how many were
+/// A status with what its line tells: the name of the class of a condition, the place of the form that
+/// signalled it, or 0:0, and what is told of the condition behind the name; why and where the file is refused, and its text; how many words were asked for, and how many were
 /// left; how many instructions were executed, or how many levels there were. `Spent` is the status `Budget`
 /// of an evaluation in which as many forms began as may begin. `UnhandledClass` is the status `Unhandled` of an
 /// image of which no program is known: the number of the class, and the place of the site where the file has it.
-/// Of words that are no command the first that is wrong is told, where one is. Of a trap the kind is told and its address. `Checked` is the status `Done` of a file that is a program, with what its
-/// forms are warned of.
+/// Of words that are no command the first that is wrong is told, where one is. Of a trap the kind is told and its address.
+/// `Checked` is the status `Done` of a file that is a program, with what its forms are warned of.
 #[derive(Drop)]
 pub enum CommandAnswer {
     Done,
     Checked(WarningLines),
-    Unhandled { class: Bytes, site: Place },
-    UnhandledClass { class: u32, site: Option<Place> },
+    Unhandled {
+        class: Bytes,
+        site: Place,
+        told: Bytes,
+    },
+    UnhandledClass {
+        class: u32,
+        site: Option<Place>,
+    },
     Usage(Option<Bytes>),
-    Refused { refusal: Refusal, text: Bytes },
-    ArenaFull { asked: u64, left: u64 },
+    Refused {
+        refusal: Refusal,
+        text: Bytes,
+    },
+    ArenaFull {
+        asked: u64,
+        left: u64,
+    },
     Budget(u32),
     Spent,
     FileFault,
@@ -94,7 +107,10 @@ pub enum CommandAnswer {
     WriteFault,
     NoMemory,
     BadImage(rv_image_file::BadImage),
-    Trap { kind: TrapKind, address: u32 },
+    Trap {
+        kind: TrapKind,
+        address: u32,
+    },
 }
 
 impl CommandAnswer {

@@ -172,7 +172,7 @@ check_ended v answer.FileFault ErrRises Rises Same sent said said' r result is t
 check_ended v answer.NoMemory ErrRises Rises Same sent said said' r result is told done line fault ok = absurd (cc)
 check_ended v (answer.Budget n) ErrRises Rises Same sent said said' r result is told done line fault ok = absurd (cc)
 check_ended v (answer.Usage word) ErrRises Rises Same sent said said' r result is told done line fault ok = absurd (cc)
-check_ended v (answer.Unhandled class site) ErrRises Rises Same sent said said' r result is told done line fault ok = absurd (cc)
+check_ended v (answer.Unhandled class site slots) ErrRises Rises Same sent said said' r result is told done line fault ok = absurd (cc)
 check_ended v (answer.UnhandledClass class site) ErrRises Rises Same sent said said' r result is told done line fault ok = absurd (cc)
 check_ended v (answer.ArenaFull wanted room) ErrRises Rises Same sent said said' r result is told done line fault ok = absurd (cc)
 check_ended v answer.Spent ErrRises Rises Same sent said said' r result is told done line fault ok = absurd (cc)

@@ -165,20 +165,22 @@ module _ (v : View) (said said' : Option (List ℕ)) where
   done (is_ended c is named h) line = inl (record { ended = ended v c endings.Value is h; line = line })
   done (is_executed c is named x k h) line = inr (inr (image_says answer.Done (executed v c answer.Done is x k h) named line))
 
-  unhandled : (class : List ℕ) (site : Place) → Heard v (answer.Unhandled class site) → Line (unhandled_line v.name class site) → Says Unhandled
-  unhandled class site (is_usage e none same) line = absurd (cc)
-  unhandled class site (is_untold e same) line = absurd (cc)
-  unhandled class site (is_checked c is named b k i same h) line = absurd h
-  unhandled class site (is_written c is named b i h) line = absurd h
-  unhandled class site (is_ended c is named h) line =
-      let P : List ℕ → List ℕ → Type 0 = λ name class. WasGiven said (unhandled_line name class site) said' in
+  unhandled : (class : List ℕ) (site : Place) (told : List ℕ) → Heard v (answer.Unhandled class site told) → Line (unhandled_line v.name class site told) → Says Unhandled
+  unhandled class site told (is_usage e none same) line = absurd (cc)
+  unhandled class site told (is_untold e same) line = absurd (cc)
+  unhandled class site told (is_checked c is named b k i same h) line = absurd h
+  unhandled class site told (is_written c is named b i h) line = absurd h
+  unhandled class site told (is_ended c is named h) line =
+      let P : List ℕ → List ℕ → Type 0 = λ name class. WasGiven said (unhandled_line name class site told) said' in
       inl (record {
         class = h.class;
         site = site;
         ended = ended v c (endings.Unhandled h.class site) is h.ends;
+        told = told;
+        tells = h.tells;
         line = subst (P (name_of c)) h.named (subst (λ name. P name class) named line);
       })
-  unhandled class site (is_executed c is named x k h) line = absurd h
+  unhandled class site told (is_executed c is named x k h) line = absurd h
 
   unhandled_class : (class : ℕ) (site : Option Place) → Heard v (answer.UnhandledClass class site) → Line (line_of v.name (answer.UnhandledClass class site)) → Says Unhandled
   unhandled_class class site (is_usage e none same) line = absurd (cc)
@@ -302,7 +304,7 @@ module _ (v : View) (said said' : Option (List ℕ)) where
   says : (a : CommandAnswer) → is_checked_answer a ≡ false → Heard v a → Line (line_of v.name a) → Says (status_of a)
   says (answer.Checked lines) other w line = absurd (cc)
   says answer.Done other w line = done w line
-  says (answer.Unhandled class site) other w line = unhandled class site w line
+  says (answer.Unhandled class site told) other w line = unhandled class site told w line
   says (answer.Usage word) other w line = usage word w line
   says (answer.Refused x text) other w line = refused x text w line
   says (answer.ArenaFull wanted room) other w line = arena_full wanted room w line
@@ -379,14 +381,14 @@ module _ (v : View) where
   Faults ErrRises = (ErrRises × (v.Same × v.InputSame)) ⊎ ((v.Rises × Cut) ⊎ (ErrRises × Untold))
 
   -- a run or an evaluation came to an end of which a line is still to be written, or nothing was touched
-  unhandled_untold : (ErrRises : Type 0) (class : List ℕ) (site : Place) → ErrRises → Heard v (answer.Unhandled class site) → Faults ErrRises
-  unhandled_untold ErrRises class site f (is_usage e none same) = inl (f, same)
-  unhandled_untold ErrRises class site f (is_untold e same) = inl (f, same)
-  unhandled_untold ErrRises class site f (is_checked c is named b k i same h) = absurd h
-  unhandled_untold ErrRises class site f (is_written c is named b i h) = absurd h
-  unhandled_untold ErrRises class site f (is_ended c is named h) =
+  unhandled_untold : (ErrRises : Type 0) (class : List ℕ) (site : Place) (told : List ℕ) → ErrRises → Heard v (answer.Unhandled class site told) → Faults ErrRises
+  unhandled_untold ErrRises class site told f (is_usage e none same) = inl (f, same)
+  unhandled_untold ErrRises class site told f (is_untold e same) = inl (f, same)
+  unhandled_untold ErrRises class site told f (is_checked c is named b k i same h) = absurd h
+  unhandled_untold ErrRises class site told f (is_written c is named b i h) = absurd h
+  unhandled_untold ErrRises class site told f (is_ended c is named h) =
       inr (inr (f, untold (endings.Unhandled h.class site) tt (ended v c (endings.Unhandled h.class site) is h.ends)))
-  unhandled_untold ErrRises class site f (is_executed c is named x k h) = absurd h
+  unhandled_untold ErrRises class site told f (is_executed c is named x k h) = absurd h
 
   class_untold : (ErrRises : Type 0) (class : ℕ) (site : Option Place) → ErrRises → Heard v (answer.UnhandledClass class site) → Faults ErrRises
   class_untold ErrRises class site f (is_usage e none same) = inl (f, same)
@@ -455,7 +457,7 @@ module _ (v : View) where
     where
       done_is_none : Done ≡ WriteFault → ⊥
       done_is_none h = cc
-  write_fault (answer.Unhandled class site) r ErrRises other w e fault quiet = unhandled_untold ErrRises class site (fault e (λ h. cc)) w
+  write_fault (answer.Unhandled class site told) r ErrRises other w e fault quiet = unhandled_untold ErrRises class site told (fault e (λ h. cc)) w
   write_fault (answer.Usage word) r ErrRises other w e fault quiet = inl (fault e (λ h. cc), usage_same word w)
   write_fault (answer.Refused x text) r ErrRises other w e fault quiet = inl (fault e (λ h. cc), refused_same x text w)
   write_fault (answer.ArenaFull wanted room) r ErrRises other w e fault quiet = full_untold ErrRises wanted room (fault e (λ h. cc)) w

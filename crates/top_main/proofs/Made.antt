@@ -21,23 +21,23 @@ use Rattle.top_main.specs.Answers.{ProgramIsLarge, ProgramAnswers, EndAnswers, E
 use Rattle.top_main.specs.Theorem.{RunCame, Counts, MakeCame}
 
 -- a value is told of a value alone
-value_of_done : (end : EvaluationEnd) (names : List (List ℕ)) (program : ProgramRows) (steps : ℕ) → EndAnswers answer.Done end names program steps → end ≡ endings.Value
-value_of_done endings.Value names program steps h = refl
-value_of_done (endings.Unhandled class site) names program steps (inl is) = absurd (cc)
-value_of_done (endings.Unhandled class site) names program steps (inr is) = absurd (cc)
-value_of_done (endings.Full wanted room) names program steps is = absurd (cc)
-value_of_done endings.More names program steps is = absurd (cc)
-value_of_done endings.Spent names program steps is = absurd (cc)
-value_of_done endings.ReadFault names program steps is = absurd (cc)
-value_of_done endings.WriteFault names program steps is = absurd (cc)
+value_of_done : (end : EvaluationEnd) (names : List (List ℕ)) (program : ProgramRows) (steps : ℕ) (told : Option (List ℕ)) → EndAnswers answer.Done end told names program steps → end ≡ endings.Value
+value_of_done endings.Value names program steps told h = refl
+value_of_done (endings.Unhandled class site) names program steps told (inl is) = let no = is.1.1 in absurd (cc)
+value_of_done (endings.Unhandled class site) names program steps told (inr is) = absurd (cc)
+value_of_done (endings.Full wanted room) names program steps told is = absurd (cc)
+value_of_done endings.More names program steps told is = absurd (cc)
+value_of_done endings.Spent names program steps told is = absurd (cc)
+value_of_done endings.ReadFault names program steps told is = absurd (cc)
+value_of_done endings.WriteFault names program steps told is = absurd (cc)
 
 -- the counts of a run that came to this end
 pub counted : (a : CommandAnswer) (end : ProgramEnd) (names : List (List ℕ)) (program : ProgramRows) (image : Image) (words arena steps : ℕ) (left : Option (List ℕ))
-    → EndAnswers a end.end names program steps → words ≡ length image.words → Executed image arena steps left end
+    → EndAnswers a end.end end.told names program steps → words ≡ length image.words → Executed image arena steps left end
     → IsCounted (Some image) arena steps left (record { answer = a; words = words; executed = end.executed })
 counted a end names program image words arena steps left h w x = λ done other is.
     let same : image ≡ other = cc in
-    let value : end.end ≡ endings.Value = value_of_done end.end names program steps (subst (λ b. EndAnswers b end.end names program steps) done h) in
+    let value : end.end ≡ endings.Value = value_of_done end.end names program steps end.told (subst (λ b. EndAnswers b end.end end.told names program steps) done h) in
     subst
     (λ (i : Image). (words ≡ length i.words) × ((input : List ℕ) → AreBytes input → Feeds left input (the_run i arena steps input) → end.executed ≡ (the_run i arena steps input).at.executed))
     same (w, x value)
@@ -66,7 +66,7 @@ module _ (n : ℕ) (names : List (List ℕ)) (program : ProgramRows) (kept : Opt
   -- an answer that tells no value is that of `make`
   pub of_other : (a : CommandAnswer) → a ≢ answer.Done → Ran a → IsMade a
   of_other answer.Done other h = absurd (other refl)
-  of_other (answer.Unhandled class site) other h = record { class = h.class; came = h.came; named = h.named }
+  of_other (answer.Unhandled class site told) other h = record { class = h.class; came = h.came; named = h.named; tells = h.tells }
   of_other (answer.ArenaFull wanted room) other (inl h) = inl h
   of_other (answer.ArenaFull wanted room) other (inr h) = inr (large wanted room h.0, h.1)
   of_other (answer.Budget m) other h = h
@@ -108,7 +108,7 @@ module _ (n : ℕ) (names : List (List ℕ)) (program : ProgramRows) (kept : Opt
       → ProgramAnswers a (Make n) names program kept arena steps left left' (sent_to before writes_before after writes_after) SourceRises Rises Same
   of_counts answer.Done run done counted ran h = counts WasGiven run done counted ran h
   of_counts answer.WriteFault run done counted ran h = (rise h.0, inr (counts WasGivenFront run done counted ran h.1))
-  of_counts (answer.Unhandled class site) run done counted ran h = absurd h
+  of_counts (answer.Unhandled class site told) run done counted ran h = absurd h
   of_counts (answer.ArenaFull wanted room) run done counted ran h = absurd h
   of_counts (answer.Budget m) run done counted ran h = absurd h
   of_counts answer.Spent run done counted ran h = absurd h

@@ -6,11 +6,16 @@ use Rattle.rv_machine.specs.declared.image.Image.{Image}
 use Rattle.lang_meaning.specs.declared.program.ProgramRows.{ProgramRows}
 use Rattle.lang_meaning.specs.declared.evaluation.EvaluationEnd.{EvaluationEnd}
 use Rattle.lang_meaning.specs.declared.evaluation.EvaluationEnd.TheVariants as endings
-use Rattle.lang_meaning.specs.Evaluates.{Evaluates, BreaksOff, Tells}
+use Rattle.lang_meaning.specs.Evaluates.{Evaluates, BreaksOff}
+use Rattle.lang_meaning.specs.Evaluates.{Tells as Faulted}
 use Rattle.top_command.specs.declared.command.Action.{Action}
 use Rattle.top_command.specs.declared.command.Action.TheVariants.{Run, Show, Check, Build, Exec, Plain, Make}
 use Rattle.top_lines.specs.declared.status.CommandAnswer.{CommandAnswer}
 use Rattle.top_lines.specs.declared.status.CommandAnswer.TheVariants as answer
+use Rattle.lang_meaning.specs.Evaluation.{Evaluation, Taken, Begins, WasTaken}
+use Rattle.eval_run.specs.declared.answer.Counted.{Counted}
+use Rattle.eval_run.specs.Telling.{TellsSo}
+use Rattle.eval_run.specs.Telling.{EvaluationTells as CountedTells}
 use Rattle.top_main.specs.Images.{IsImageOf}
 use Rattle.base.specs.declared.reason.Refusal.{Refusal}
 use Rattle.base.specs.declared.reason.Stop.{Stop}
@@ -21,40 +26,64 @@ use Rattle.top_command.specs.Command.{Request}
 use Rattle.top_exec.specs.Loads.{IsTextTaken}
 use Rattle.top_exec.specs.Runs.{Sent}
 use Rattle.top_lines.specs.Lines.{answer_of_stop}
-use Rattle.top_main.specs.Answers.{EndAnswers, EndedAnswers, ProgramSignals, ProgramIsLarge, ProgramBreaks, ProgramAnswers, FileSignals, FileIsLargeSo, FileAnswers, RunsFiles, Obeys, was_ended}
-use Rattle.top_main.specs.Theorem.{library, mode_of, IsTextOf, IsWhole, Offends, RunCame, Came, RunsPrograms, MakesText, RunComes, FileEnds, FileBreaks}
+use Rattle.top_main.specs.Answers.{EndTold, EndAnswers, EndedAnswers, ProgramSignals, ProgramIsLarge, ProgramBreaks, ProgramAnswers, FileSignals, FileIsLargeSo, FileAnswers, RunsFiles, Obeys, was_ended}
+use Rattle.top_main.specs.Theorem.{library, mode_of, IsTextOf, IsWhole, Offends, RunCame, Came, Tells, ImageTells, EvaluationTells, RunsPrograms, MakesText, RunComes, FileEnds, FileBreaks}
 
 -- the answer of an end is that of the program that came to it
 pub of_end : (a : CommandAnswer) (end : EvaluationEnd) (action : Action) (names : List (List ℕ)) (program : ProgramRows) (kept : Option Image) (arena steps : ℕ) (left left' : Option (List ℕ)) (sent : Sent) (SourceRises Rises Same : Type 0)
-    → Came action names program kept arena steps left left' sent end → Tells end SourceRises Rises → EndAnswers a end names program steps
+    → Came action names program kept arena steps left left' sent end → Faulted end SourceRises Rises
+    → (told : Option (List ℕ)) → EndTold (Tells action names program kept arena steps left left') end told → EndAnswers a end told names program steps
     → ProgramAnswers a action names program kept arena steps left left' sent SourceRises Rises Same
-of_end a endings.Value action names program kept arena steps left left' sent SourceRises Rises Same h t is =
+of_end a endings.Value action names program kept arena steps left left' sent SourceRises Rises Same h t told tells is =
     subst (λ x. ProgramAnswers x action names program kept arena steps left left' sent SourceRises Rises Same) (sym is) h
-of_end a (endings.Unhandled class site) action names program kept arena steps left left' sent SourceRises Rises Same h t (inl is) =
-    subst (λ x. ProgramAnswers x action names program kept arena steps left left' sent SourceRises Rises Same) (sym is) (record { class = class; came = h; named = refl })
-of_end a (endings.Unhandled class site) action names program kept arena steps left left' sent SourceRises Rises Same h t (inr is) =
+of_end a (endings.Unhandled class site) action names program kept arena steps left left' sent SourceRises Rises Same h t told tells (inl is) =
+    subst (λ x. ProgramAnswers x action names program kept arena steps left left' sent SourceRises Rises Same) (sym is.1.1) (record {
+      class = class;
+      came = h;
+      named = refl;
+      tells = subst (EndTold (Tells action names program kept arena steps left left') (endings.Unhandled class site)) is.1.0 tells;
+    })
+of_end a (endings.Unhandled class site) action names program kept arena steps left left' sent SourceRises Rises Same h t told tells (inr is) =
     subst (λ x. ProgramAnswers x action names program kept arena steps left left' sent SourceRises Rises Same) (sym is) (inr (inl (class, (site, h))))
-of_end a (endings.Full wanted room) action names program kept arena steps left left' sent SourceRises Rises Same h t is =
+of_end a (endings.Full wanted room) action names program kept arena steps left left' sent SourceRises Rises Same h t told tells is =
     subst (λ x. ProgramAnswers x action names program kept arena steps left left' sent SourceRises Rises Same) (sym is) (inl h)
-of_end a endings.More action names program kept arena steps left left' sent SourceRises Rises Same h t is =
+of_end a endings.More action names program kept arena steps left left' sent SourceRises Rises Same h t told tells is =
     subst (λ x. ProgramAnswers x action names program kept arena steps left left' sent SourceRises Rises Same) (sym is) (refl, h)
-of_end a endings.Spent action names program kept arena steps left left' sent SourceRises Rises Same h t is =
+of_end a endings.Spent action names program kept arena steps left left' sent SourceRises Rises Same h t told tells is =
     subst (λ x. ProgramAnswers x action names program kept arena steps left left' sent SourceRises Rises Same) (sym is) h
-of_end a endings.ReadFault action names program kept arena steps left left' sent SourceRises Rises Same h t is =
+of_end a endings.ReadFault action names program kept arena steps left left' sent SourceRises Rises Same h t told tells is =
     subst (λ x. ProgramAnswers x action names program kept arena steps left left' sent SourceRises Rises Same) (sym is) (t, h)
-of_end a endings.WriteFault action names program kept arena steps left left' sent SourceRises Rises Same h t is =
+of_end a endings.WriteFault action names program kept arena steps left left' sent SourceRises Rises Same h t told tells is =
     subst (λ x. ProgramAnswers x action names program kept arena steps left left' sent SourceRises Rises Same) (sym is) (t, h)
+
+-- what is told of an evaluation is told of its condition
+told_at : (end : EvaluationEnd) (e : Evaluation) (left left' : Option (List ℕ)) (told : List ℕ) (t : Taken) → WasTaken left t left'
+    → ((input : List ℕ) → Begins t input → TellsSo end e input told) → EndTold (EvaluationTells e left left') end (Some told)
+told_at endings.Value e left left' told t was h = tt
+told_at (endings.Unhandled class site) e left left' told t was h = record { taken = t; was_taken = was; tells = h }
+told_at (endings.Full asked room) e left left' told t was h = tt
+told_at endings.More e left left' told t was h = tt
+told_at endings.Spent e left left' told t was h = tt
+told_at endings.ReadFault e left left' told t was h = tt
+told_at endings.WriteFault e left left' told t was h = tt
+
+pub told_end : (e : Evaluation) (left left' : Option (List ℕ)) (c : Counted) → CountedTells e left left' c → EndTold (EvaluationTells e left left') c.end (Some c.told)
+told_end e left left' c h = told_at c.end e left left' c.told h.taken h.was_taken h.tells
 
 -- of an evaluation, whose levels and words are numbers of another type
 pub of_evaluation : (a : CommandAnswer) (end : EvaluationEnd) (names : List (List ℕ)) (program : ProgramRows) (levels levels' words words' : ℕ) (left left' : Option (List ℕ)) (sent : Sent) (SourceRises Rises Same : Type 0)
     → levels' ≡ levels → words' ≡ words
     → Evaluates (record { names = names; program = program; levels = levels'; words = words' }) left left' sent.before sent.after end
-    → Tells end SourceRises Rises → EndAnswers a end names program levels
+    → Faulted end SourceRises Rises
+    → (told : Option (List ℕ)) → EndTold (EvaluationTells (record { names = names; program = program; levels = levels'; words = words' }) left left') end told
+    → EndAnswers a end told names program levels
     → ProgramAnswers a Plain names program None words levels left left' sent SourceRises Rises Same
-of_evaluation a end names program levels levels' words words' left left' sent SourceRises Rises Same l w h t is =
+of_evaluation a end names program levels levels' words words' left left' sent SourceRises Rises Same l w h t told tells is =
     let E : ℕ → ℕ → Type 0 = λ n m. Evaluates (record { names = names; program = program; levels = n; words = m }) left left' sent.before sent.after end in
     let same : E levels words = subst (λ n. E n words) l (subst (λ m. E levels' m) w h) in
-    of_end a end Plain names program None words levels left left' sent SourceRises Rises Same (refl, same) t is
+    let T : ℕ → ℕ → Type 0 = λ n m. EndTold (EvaluationTells (record { names = names; program = program; levels = n; words = m }) left left') end told in
+    let same_told : T levels words = subst (λ n. T n words) l (subst (λ m. T levels' m) w tells) in
+    of_end a end Plain names program None words levels left left' sent SourceRises Rises Same (refl, same) t told same_told is
 
 -- of one that broke off
 pub of_break : (names : List (List ℕ)) (program : ProgramRows) (levels levels' words words' : ℕ) (left left' : Option (List ℕ)) (sent : Sent) (SourceRises Rises Same : Type 0)
@@ -69,11 +98,12 @@ of_break names program levels levels' words words' left left' sent SourceRises R
 -- of a run of its image
 pub of_run : (a : CommandAnswer) (end : EvaluationEnd) (names : List (List ℕ)) (program : ProgramRows) (image : Image) (arena steps : ℕ) (left left' : Option (List ℕ)) (sent : Sent) (SourceRises Rises Same : Type 0)
     → IsImageOf names program image → length image.words ≤ arena → RunComes names program image arena steps left left' sent end
-    → Tells end SourceRises Rises → EndAnswers a end names program steps
+    → Faulted end SourceRises Rises → (told : Option (List ℕ)) → EndTold (ImageTells names program (Some image) arena steps left) end told
+    → EndAnswers a end told names program steps
     → ProgramAnswers a Run names program (Some image) arena steps left left' sent SourceRises Rises Same
-of_run a end names program image arena steps left left' sent SourceRises Rises Same is_image fits h t is =
+of_run a end names program image arena steps left left' sent SourceRises Rises Same is_image fits h t told tells is =
     of_end a end Run names program (Some image) arena steps left left' sent SourceRises Rises Same
-    (record { built = record { image = image; is_kept = refl; is_image = is_image }; fits = fits; comes = h }) t is
+    (record { built = record { image = image; is_kept = refl; is_image = is_image }; fits = fits; comes = h }) t told tells is
 
 -- of an image that is larger than the arena
 pub of_large : (names : List (List ℕ)) (program : ProgramRows) (image : Image) (wanted arena steps : ℕ) (left left' : Option (List ℕ)) (sent : Sent) (SourceRises Rises Same : Type 0)
@@ -91,10 +121,10 @@ of_large names program image wanted arena steps left left' sent SourceRises Rise
     )
 
 -- an answer, where each thing that it may tell is told in other words
-module _ (Ends Ends' : EvaluationEnd → Type 0) (Signals Signals' : List ℕ → Place → Type 0) (Large Large' : ℕ → ℕ → Type 0) (Breaks Breaks' : Type 0) (Bad Bad' : Refusal → List ℕ → Type 0) (ShelfRises ShelfRises' SourceRises Rises Same Unkept Unkept' : Type 0) (ends : (end : EvaluationEnd) → Ends end → Ends' end) (signals : (name : List ℕ) (site : Place) → Signals name site → Signals' name site) (large : (wanted room : ℕ) → Large wanted room → Large' wanted room) (breaks : Breaks → Breaks') (bad : (r : Refusal) (text : List ℕ) → Bad r text → Bad' r text) (shelf : ShelfRises → ShelfRises') (unkept : Unkept → Unkept') where
+module _ (Ends Ends' : EvaluationEnd → Type 0) (Signals Signals' : List ℕ → Place → List ℕ → Type 0) (Large Large' : ℕ → ℕ → Type 0) (Breaks Breaks' : Type 0) (Bad Bad' : Refusal → List ℕ → Type 0) (ShelfRises ShelfRises' SourceRises Rises Same Unkept Unkept' : Type 0) (ends : (end : EvaluationEnd) → Ends end → Ends' end) (signals : (name : List ℕ) (site : Place) (told : List ℕ) → Signals name site told → Signals' name site told) (large : (wanted room : ℕ) → Large wanted room → Large' wanted room) (breaks : Breaks → Breaks') (bad : (r : Refusal) (text : List ℕ) → Bad r text → Bad' r text) (shelf : ShelfRises → ShelfRises') (unkept : Unkept → Unkept') where
   pub retold : (a : CommandAnswer) (steps : ℕ) → EndedAnswers a steps Ends Signals Large Breaks Bad ShelfRises SourceRises Rises Same Unkept → EndedAnswers a steps Ends' Signals' Large' Breaks' Bad' ShelfRises' SourceRises Rises Same Unkept'
   retold answer.Done steps h = ends endings.Value h
-  retold (answer.Unhandled class site) steps h = signals class site h
+  retold (answer.Unhandled class site told) steps h = signals class site told h
   retold (answer.ArenaFull wanted room) steps (inl h) = inl (ends (endings.Full wanted room) h)
   retold (answer.ArenaFull wanted room) steps (inr h) = inr (large wanted room h.0, h.1)
   retold (answer.Budget n) steps h = (h.0, ends endings.More h.1)
@@ -133,8 +163,9 @@ module _ (action : Action) (held : Option (List ℕ)) (text : List ℕ) (whole :
   abbrev ends : (end : EvaluationEnd) → Came action whole.names whole.program kept arena steps left left' sent end → FileEnds action held kept arena steps left left' sent end
   ends end h = record { text = text; is_text = is_text; whole = whole; came = h }
 
-  signals : (name : List ℕ) (site : Place) → ProgramSignals action whole.names whole.program kept arena steps left left' sent name site → FileSignals action held kept arena steps left left' sent name site
-  signals name site h = record { class = h.class; ends = ends (endings.Unhandled h.class site) h.came; named = h.named }
+  signals : (name : List ℕ) (site : Place) (told : List ℕ) → ProgramSignals action whole.names whole.program kept arena steps left left' sent name site told
+      → FileSignals action held kept arena steps left left' sent name site told
+  signals name site told h = record { class = h.class; ends = ends (endings.Unhandled h.class site) h.came; named = h.named; tells = h.tells }
 
   large : (wanted room : ℕ) → ProgramIsLarge action whole.names whole.program kept arena wanted room → FileIsLargeSo action held kept arena wanted room
   large wanted room h = record {
@@ -172,9 +203,10 @@ module _ (names : List (List ℕ)) (program : ProgramRows) (kept : Option Image)
   Answered action a = ProgramAnswers a action names program kept arena steps left left' sent SourceRises Rises Same
 
   -- by an action for which a run comes to the same end
-  module _ (action : Action) (runs : RunsPrograms action) (ends : (end : EvaluationEnd) → RunCame names program kept arena steps left left' sent end → Came action names program kept arena steps left left' sent end) where
-    its_signals : (name : List ℕ) (site : Place) → ProgramSignals Run names program kept arena steps left left' sent name site → ProgramSignals action names program kept arena steps left left' sent name site
-    its_signals name site h = record { class = h.class; came = ends (endings.Unhandled h.class site) h.came; named = h.named }
+  module _ (action : Action) (runs : RunsPrograms action) (ends : (end : EvaluationEnd) → RunCame names program kept arena steps left left' sent end → Came action names program kept arena steps left left' sent end) (tells : (told : List ℕ) → ImageTells names program kept arena steps left told → Tells action names program kept arena steps left left' told) where
+    its_signals : (name : List ℕ) (site : Place) (told : List ℕ) → ProgramSignals Run names program kept arena steps left left' sent name site told
+        → ProgramSignals action names program kept arena steps left left' sent name site told
+    its_signals name site told h = record { class = h.class; came = ends (endings.Unhandled h.class site) h.came; named = h.named; tells = tells told h.tells }
 
     its_large : (wanted room : ℕ) → ProgramIsLarge Run names program kept arena wanted room → ProgramIsLarge action names program kept arena wanted room
     its_large wanted room h = record { runs = runs; is_large = h.is_large; wanted_is = h.wanted_is; room_is = h.room_is }
@@ -196,7 +228,7 @@ module _ (names : List (List ℕ)) (program : ProgramRows) (kept : Option Image)
 
   pub of_action : (action : Action) → RunsFiles action → (a : CommandAnswer) → Answered Run a → Answered action a
   of_action Run runs a h = h
-  of_action Show runs a h = of_its_run Show tt shown a h
+  of_action Show runs a h = of_its_run Show tt shown (λ told x. x) a h
   of_action Check runs a h = absurd runs
   of_action Build runs a h = absurd runs
   of_action Exec runs a h = absurd runs
@@ -207,7 +239,7 @@ module _ (names : List (List ℕ)) (program : ProgramRows) (kept : Option Image)
 pub of_no_shelf : (a : CommandAnswer) (action : Action) (held : Option (List ℕ)) (kept : Option Image) (arena steps : ℕ) (left left' : Option (List ℕ)) (sent : Sent) (ShelfRises SourceRises Rises Same : Type 0)
     → FileAnswers a action held kept arena steps left left' sent ⊥ SourceRises Rises Same → FileAnswers a action held kept arena steps left left' sent ShelfRises SourceRises Rises Same
 of_no_shelf answer.Done action held kept arena steps left left' sent ShelfRises SourceRises Rises Same h = h
-of_no_shelf (answer.Unhandled class site) action held kept arena steps left left' sent ShelfRises SourceRises Rises Same h = h
+of_no_shelf (answer.Unhandled class site told) action held kept arena steps left left' sent ShelfRises SourceRises Rises Same h = h
 of_no_shelf (answer.ArenaFull wanted room) action held kept arena steps left left' sent ShelfRises SourceRises Rises Same h = h
 of_no_shelf (answer.Budget n) action held kept arena steps left left' sent ShelfRises SourceRises Rises Same h = h
 of_no_shelf answer.Spent action held kept arena steps left left' sent ShelfRises SourceRises Rises Same h = h

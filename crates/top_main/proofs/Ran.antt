@@ -1,13 +1,17 @@
 -- From what a run of an image says to what a run of the program says.
 use Rattle.std.proofs.Common.{◌≡◌, ℕ, ◌<◌, ◌≤◌, List, length, refl, sym, subst, ◌∙◌, ◌⊎◌, inl, inr, arith, ◌==◌, false}
 use Rattle.std.proofs.lemmas.Bool.{ne_eqb}
-use Rattle.std.specs.Prelude.{Option, slice_index}
+use Rattle.std.specs.Prelude.{Option, Some, None, IfSome, slice_index}
 use Rattle.base.specs.declared.place.Place.{Place}
 use Rattle.rv_machine.specs.declared.image.Image.{Image}
 use Rattle.rv_machine.specs.declared.ending.Ending.{Ending}
 use Rattle.rv_machine.specs.declared.ending.Ending.TheVariants.{Halt, Unhandled, Full, Budget, Trap, ReadFault, WriteFault}
 use Rattle.rv_machine.specs.declared.ending.TrapKind.{TrapKind}
 use Rattle.rv_machine.specs.Run.{Ended, Feeds}
+use Rattle.rv_machine.specs.State.{State}
+use Rattle.mid_told.specs.StandsFor.{IsTold}
+use Rattle.back_build.specs.WordsLeft.{AreWordsOf}
+use Rattle.back_told.specs.Conditions.{TellsConditions, condition_register}
 use Rattle.lang_meaning.specs.declared.program.ProgramRows.{ProgramRows}
 use Rattle.lang_meaning.specs.declared.evaluation.EvaluationEnd.{EvaluationEnd}
 use Rattle.lang_meaning.specs.declared.evaluation.EvaluationEnd.TheVariants as endings
@@ -15,10 +19,11 @@ use Rattle.lang_meaning.specs.Evaluates.{Tells}
 use Rattle.lang_meaning.specs.Meaning.{Meant, meaning, place_of_site}
 use Rattle.lang_meaning.specs.State.{no_place, unlimited}
 use Rattle.top_exec.specs.declared.image_run.ImageEnd.{ImageEnd}
-use Rattle.top_exec.specs.Runs.{Sent, the_run, SaysAll, EndsAs, ComesTo, ImageComes, FaultTells}
+use Rattle.top_exec.specs.Runs.{Sent, the_run, SaysAll, EndsAs, ComesTo, ImageComes, LeavesState, FaultTells}
 use Rattle.top_main.specs.Images.{AreBytes, Halts, Signals, HasNoRoom, IsImageOf}
-use Rattle.top_main.specs.Answers.{site_told, end_told}
-use Rattle.top_main.specs.Theorem.{RunComes}
+use Rattle.top_main.specs.Answers.{EndTold, site_told, end_told}
+use Rattle.top_main.specs.Theorem.{RunComes, ImageTells}
+use Rattle.top_main.specs.ToldRuns.{IsToldOf}
 
 -- the place of a site is that which is told of its number
 told : (sites : List Place) (number : ℕ) (place : Place) → ((number ≡ 0) × (place ≡ no_place)) ⊎ ((1 ≤ number) × (place_of_site sites number ≡ place)) → place ≡ site_told sites number
@@ -89,6 +94,35 @@ module _ (names : List (List ℕ)) (program : ProgramRows) (image : Image) (aren
       absurd (no_trap program (meaning names program input steps unlimited) (the_run image arena steps input) kind address (sym is ∙ f.0.ending) (ways input bytes))
   came e ReadFault is h = h
   came e WriteFault is h = h
+
+  -- what is told of the condition by which it ended
+  module _ (conditions : TellsConditions names program image) (e : ImageEnd) (state : State) where
+    tells_so : (ending : Ending) → e.ending ≡ ending → ComesTo ending image arena steps left left' sent e → LeavesState ending image arena steps left state
+        → (told : Option (List ℕ)) → IfSome told (IsToldOf names program.classes state)
+        → EndTold (ImageTells names program (Some image) arena steps left) (end_told program.sites e.site ending) told
+    tells_so (Halt word) is h stood told t = tt
+    tells_so (Unhandled class) is h stood None t = tt
+    tells_so (Unhandled class) is h stood (Some text) t = record {
+      image = image;
+      is_kept = refl;
+      tells = λ input bytes feeds.
+          let x : Ended = the_run image arena steps input in
+          let same : state ≡ x.at.state = stood input feeds in
+          let ends : x.ending ≡ Unhandled class = sym (h input feeds).0.ending ∙ is in
+          conditions arena input fits most bytes steps below class ends t.words text (subst (λ (s : State). AreWordsOf s t.words) same t.are)
+          (subst (λ (s : State). IsTold names program.classes t.words (slice_index s.registers condition_register) text) same t.is);
+    }
+    tells_so (Full wanted room) is h stood told t = tt
+    tells_so Budget is h stood told t = tt
+    tells_so (Trap kind address) is h stood told t = tt
+    tells_so ReadFault is h stood told t = tt
+    tells_so WriteFault is h stood told t = tt
+
+    pub tells : (end : EvaluationEnd) → end ≡ end_told program.sites e.site e.ending → ImageComes image arena steps left left' sent e
+        → LeavesState e.ending image arena steps left state → (told : Option (List ℕ)) → IfSome told (IsToldOf names program.classes state)
+        → EndTold (ImageTells names program (Some image) arena steps left) end told
+    tells end is h stood told t =
+        subst (λ (x : EvaluationEnd). EndTold (ImageTells names program (Some image) arena steps left) x told) (sym is) (tells_so e.ending refl h stood told t)
 
   -- the end that is told of its run is the one that it came to
   pub comes : (end : EvaluationEnd) (e : ImageEnd) → end ≡ end_told program.sites e.site e.ending → ImageComes image arena steps left left' sent e → RunComes names program image arena steps left left' sent end

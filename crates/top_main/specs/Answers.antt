@@ -25,21 +25,28 @@ use Rattle.top_lines.specs.declared.status.Status.TheVariants.{Done, WriteFault}
 use Rattle.top_lines.specs.Lines.{counts_line, ok_line}
 use Rattle.top_exec.specs.Runs.{Sent, the_run}
 use Rattle.top_exec.specs.Executes.{ExecAnswers}
-use Rattle.top_main.specs.Theorem.{Offends, IsLarge, Came, RunsPrograms, FileEnds, FileIsLarge, FileBreaks, FileWarns, AreWarned, IsFileOf, FileBuilds, MakesText, class_text, name_of}
+use Rattle.top_main.specs.Theorem.{Offends, IsLarge, Came, Tells, RunsPrograms, FileEnds, FileIsLarge, FileBreaks, FileWarns, AreWarned, IsFileOf, FileBuilds, MakesText, class_text, name_of}
 use Rattle.top_main.specs.Images.{AreBytes}
 use Rattle.top_main.specs.declared.image_run.ProgramEnd.{ProgramEnd}
 use Rattle.top_main.specs.declared.run.ProgramRun.{ProgramRun}
 
--- the answer of a program that came to an end: with these names, within so many levels or instructions; to name a class takes memory
-abbrev pub EndAnswers : CommandAnswer → EvaluationEnd → List (List ℕ) → ProgramRows → (steps : ℕ) → Type 0
-EndAnswers a endings.Value names program steps = a ≡ answer.Done
-EndAnswers a (endings.Unhandled class site) names program steps =
-    (a ≡ answer.Unhandled (class_text names program class) site) ⊎ (a ≡ answer.NoMemory)
-EndAnswers a (endings.Full wanted room) names program steps = a ≡ answer.ArenaFull wanted room
-EndAnswers a endings.More names program steps = a ≡ answer.Budget steps
-EndAnswers a endings.Spent names program steps = a ≡ answer.Spent
-EndAnswers a endings.ReadFault names program steps = a ≡ answer.ReadFault
-EndAnswers a endings.WriteFault names program steps = a ≡ answer.WriteFault
+-- what is told where a program came to an end by a condition, and where memory was not wanting to tell it
+abbrev pub EndTold : (Of : List ℕ → Type 0) → EvaluationEnd → (told : Option (List ℕ)) → Type 0
+EndTold Of (endings.Unhandled class site) (Some text) = Of text
+EndTold Of (endings.Unhandled class site) None = ⊤
+EndTold Of end told = ⊤
+
+-- the answer of a program that came to an end, by a condition of which this is told: with these names, within so many levels or instructions; to tell of a
+-- condition, and to name its class, takes memory
+abbrev pub EndAnswers : CommandAnswer → EvaluationEnd → (told : Option (List ℕ)) → List (List ℕ) → ProgramRows → (steps : ℕ) → Type 0
+EndAnswers a endings.Value told names program steps = a ≡ answer.Done
+EndAnswers a (endings.Unhandled class site) told names program steps =
+    ((text : List ℕ) × ((told ≡ Some text) × (a ≡ answer.Unhandled (class_text names program class) site text))) ⊎ (a ≡ answer.NoMemory)
+EndAnswers a (endings.Full wanted room) told names program steps = a ≡ answer.ArenaFull wanted room
+EndAnswers a endings.More told names program steps = a ≡ answer.Budget steps
+EndAnswers a endings.Spent told names program steps = a ≡ answer.Spent
+EndAnswers a endings.ReadFault told names program steps = a ≡ answer.ReadFault
+EndAnswers a endings.WriteFault told names program steps = a ≡ answer.WriteFault
 
 -- what is to be written, and whether it was given so
 pub record Wrote (Bytes : List ℕ → Type 0) (Given : Option (List ℕ) → List ℕ → Option (List ℕ) → Type 0) (given given' : Option (List ℕ)) : Type 0 where
@@ -58,7 +65,7 @@ WrittenAnswers answer.NoMemory All Front Bad ShelfRises Rises Same Unkept = Same
 WrittenAnswers (answer.Budget n) All Front Bad ShelfRises Rises Same Unkept = ⊥
 WrittenAnswers (answer.Usage word) All Front Bad ShelfRises Rises Same Unkept = ⊥
 WrittenAnswers (answer.Checked warnings) All Front Bad ShelfRises Rises Same Unkept = ⊥
-WrittenAnswers (answer.Unhandled class site) All Front Bad ShelfRises Rises Same Unkept = ⊥
+WrittenAnswers (answer.Unhandled class site told) All Front Bad ShelfRises Rises Same Unkept = ⊥
 WrittenAnswers (answer.UnhandledClass class site) All Front Bad ShelfRises Rises Same Unkept = ⊥
 WrittenAnswers (answer.ArenaFull wanted room) All Front Bad ShelfRises Rises Same Unkept = ⊥
 WrittenAnswers answer.Spent All Front Bad ShelfRises Rises Same Unkept = ⊥
@@ -131,11 +138,11 @@ IsCounted kept arena steps left r =
     → r.executed ≡ (the_run image arena steps input).at.executed)
 
 -- the answer for a program that is run or evaluated within so many instructions or levels: where it comes to an end, or to a condition whose class
--- has a name, at a site; where its image is too large, or its evaluation breaks off; which refusals its text has, and which text that is; where the shelf, the source or the output
+-- has a name, at a site, and of which this is told; where its image is too large, or its evaluation breaks off; which refusals its text has, and which text that is; where the shelf, the source or the output
 -- rose in faults; where the outside is the same, and no image is kept
-abbrev pub EndedAnswers : CommandAnswer → (steps : ℕ) → (Ends : EvaluationEnd → Type 0) → (Signals : List ℕ → Place → Type 0) → (Large : ℕ → ℕ → Type 0) → (Breaks : Type 0) → (Bad : Refusal → List ℕ → Type 0) → (ShelfRises SourceRises Rises Same Unkept : Type 0) → Type 0
+abbrev pub EndedAnswers : CommandAnswer → (steps : ℕ) → (Ends : EvaluationEnd → Type 0) → (Signals : List ℕ → Place → List ℕ → Type 0) → (Large : ℕ → ℕ → Type 0) → (Breaks : Type 0) → (Bad : Refusal → List ℕ → Type 0) → (ShelfRises SourceRises Rises Same Unkept : Type 0) → Type 0
 EndedAnswers answer.Done steps Ends Signals Large Breaks Bad ShelfRises SourceRises Rises Same Unkept = Ends endings.Value
-EndedAnswers (answer.Unhandled class site) steps Ends Signals Large Breaks Bad ShelfRises SourceRises Rises Same Unkept = Signals class site
+EndedAnswers (answer.Unhandled class site told) steps Ends Signals Large Breaks Bad ShelfRises SourceRises Rises Same Unkept = Signals class site told
 EndedAnswers (answer.ArenaFull wanted room) steps Ends Signals Large Breaks Bad ShelfRises SourceRises Rises Same Unkept =
     Ends (endings.Full wanted room) ⊎ (Large wanted room × Same)
 EndedAnswers (answer.Budget n) steps Ends Signals Large Breaks Bad ShelfRises SourceRises Rises Same Unkept = (n ≡ steps) × Ends endings.More
@@ -152,11 +159,12 @@ EndedAnswers (answer.UnhandledClass class site) steps Ends Signals Large Breaks 
 EndedAnswers (answer.BadImage reason) steps Ends Signals Large Breaks Bad ShelfRises SourceRises Rises Same Unkept = ⊥
 EndedAnswers (answer.Trap kind address) steps Ends Signals Large Breaks Bad ShelfRises SourceRises Rises Same Unkept = ⊥
 
--- a program comes to a condition of a class of that name
-pub record ProgramSignals (action : Action) (names : List (List ℕ)) (program : ProgramRows) (kept : Option Image) (arena steps : ℕ) (left left' : Option (List ℕ)) (sent : Sent) (name : List ℕ) (site : Place) : Type 0 where
+-- a program comes to a condition of a class of that name, of which this is told
+pub record ProgramSignals (action : Action) (names : List (List ℕ)) (program : ProgramRows) (kept : Option Image) (arena steps : ℕ) (left left' : Option (List ℕ)) (sent : Sent) (name : List ℕ) (site : Place) (told : List ℕ) : Type 0 where
   pub class : ℕ
   pub came : Came action names program kept arena steps left left' sent (endings.Unhandled class site)
   pub named : name ≡ class_text names program class
+  pub tells : Tells action names program kept arena steps left left' told
 
 -- its image, which was to run, has so many words, and the arena has only so many
 pub record ProgramIsLarge (action : Action) (names : List (List ℕ)) (program : ProgramRows) (kept : Option Image) (arena : ℕ) (wanted room : ℕ) : Type 0 where
@@ -176,11 +184,12 @@ abbrev pub ProgramAnswers : CommandAnswer → Action → (names : List (List ℕ
 ProgramAnswers a action names program kept arena steps left left' sent SourceRises Rises Same =
     EndedAnswers a steps (Came action names program kept arena steps left left' sent) (ProgramSignals action names program kept arena steps left left' sent) (ProgramIsLarge action names program kept arena) (ProgramBreaks action names program kept arena steps left left' sent) (λ r text. ⊥) ⊥ SourceRises Rises Same ⊥
 
--- the file's text is a whole program, which comes to a condition of a class of that name
-pub record FileSignals (action : Action) (held : Option (List ℕ)) (kept : Option Image) (arena steps : ℕ) (left left' : Option (List ℕ)) (sent : Sent) (name : List ℕ) (site : Place) : Type 0 where
+-- the file's text is a whole program, which comes to a condition of a class of that name, of which this is told
+pub record FileSignals (action : Action) (held : Option (List ℕ)) (kept : Option Image) (arena steps : ℕ) (left left' : Option (List ℕ)) (sent : Sent) (name : List ℕ) (site : Place) (told : List ℕ) : Type 0 where
   pub class : ℕ
   pub ends : FileEnds action held kept arena steps left left' sent (endings.Unhandled class site)
   pub named : name ≡ class_text ends.whole.names ends.whole.program class
+  pub tells : Tells action ends.whole.names ends.whole.program kept arena steps left left' told
 
 -- one whose image, which was to run, has so many words, and the arena has only so many
 pub record FileIsLargeSo (action : Action) (held : Option (List ℕ)) (kept : Option Image) (arena : ℕ) (wanted room : ℕ) : Type 0 where

@@ -3,3 +3,4 @@ pub mod Images
 pub mod Theorem
 pub mod Answers
 pub mod Agree
+pub mod ToldRuns

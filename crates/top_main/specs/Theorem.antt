@@ -2,7 +2,7 @@
 --
 -- It names the words of the command (`Command`), the verdict on a text (`front_files`) behind the library (`front_library`), what a program is
 -- warned of (`lang_warnings`), the text of `make`
--- (`top_made`), the meaning of a program and what an evaluation reads and prints and how it ends by it (`lang_meaning`), the machine and its runs
+-- (`top_made`), what is told of a condition (`lang_told`), the meaning of a program and what an evaluation reads and prints and how it ends by it (`lang_meaning`), the machine and its runs
 -- (`rv_machine`, `Runs`), what the image of a program does by its meaning (`Images`), the bytes of image files (`rv_image_file`) and what is told of one
 -- that is run (`Executes`), and the lines of statuses (`Lines`), and nothing of how code is made or a program is evaluated.
 use Rattle.std.specs.Prelude.{◌≡◌, ◌≢◌, ◌⊎◌, ⊤, ℕ, ◌<◌, ◌≤◌, List, [], length, slice_get, map, Option, Some, None, codes}
@@ -29,6 +29,8 @@ use Rattle.lang_warnings.specs.Warnings.{AreWarnings}
 use Rattle.lang_meaning.specs.declared.evaluation.EvaluationEnd.{EvaluationEnd}
 use Rattle.lang_meaning.specs.declared.evaluation.EvaluationEnd.TheVariants as endings
 use Rattle.lang_meaning.specs.Evaluates.{Evaluates, BreaksOff}
+use Rattle.lang_meaning.specs.Evaluation.{Evaluation, meaning_with, Taken, Begins, WasTaken}
+use Rattle.lang_told.specs.Ends.{TellsEnd}
 use Rattle.top_command.specs.Command.{Request, asked}
 use Rattle.top_command.specs.Wrong.{wrong_word}
 use Rattle.top_command.specs.declared.command.Action.{Action}
@@ -150,6 +152,32 @@ Came Check names program kept arena steps left left' sent end = ⊥
 Came Build names program kept arena steps left left' sent end = ⊥
 Came Exec names program kept arena steps left left' sent end = ⊥
 
+-- What is told of the condition by which a program ended
+
+-- where its image ran, which was kept: by each input that feeds the run
+pub record ImageTells (names : List (List ℕ)) (program : ProgramRows) (kept : Option Image) (arena steps : ℕ) (left : Option (List ℕ)) (told : List ℕ) : Type 0 where
+  pub image : Image
+  pub is_kept : kept ≡ Some image
+  pub tells :
+      (input : List ℕ) → AreBytes input → Feeds left input (the_run image arena steps input)
+      → TellsEnd names program (meaning names program input steps unlimited) told
+
+-- where it was evaluated: by each input that begins with what was read, and ends there where the end of the source was met
+pub record EvaluationTells (e : Evaluation) (left left' : Option (List ℕ)) (told : List ℕ) : Type 0 where
+  pub taken : Taken
+  pub was_taken : WasTaken left taken left'
+  pub tells : (input : List ℕ) → Begins taken input → TellsEnd e.names e.program (meaning_with e input) told
+
+abbrev pub Tells : Action → (names : List (List ℕ)) (program : ProgramRows) → (kept : Option Image) → (arena steps : ℕ) → (left left' : Option (List ℕ)) → (told : List ℕ) → Type 0
+Tells Run names program kept arena steps left left' told = ImageTells names program kept arena steps left told
+Tells Show names program kept arena steps left left' told = ImageTells names program kept arena steps left told
+Tells (Make n) names program kept arena steps left left' told = ImageTells names program kept arena steps left told
+Tells Plain names program kept arena steps left left' told =
+    EvaluationTells (record { names = names; program = program; levels = steps; words = arena }) left left' told
+Tells Check names program kept arena steps left left' told = ⊥
+Tells Build names program kept arena steps left left' told = ⊥
+Tells Exec names program kept arena steps left left' told = ⊥
+
 -- the actions that run the image of a program
 abbrev pub RunsPrograms : Action → Type 0
 RunsPrograms Run = ⊤
@@ -250,12 +278,14 @@ pub record IsDone (words : List (List ℕ)) (holds : List ℕ → Option (List �
   pub ended : IsEnded words holds kept left left' sent endings.Value
   pub line : WasGiven said [] said'
 
--- Unhandled: it ended by a condition that no handler took; the line says where in which file it was signalled, and of which class
+-- Unhandled: it ended by a condition that no handler took; the line says where in which file it was signalled, of which class, and what is told of it
 pub record IsUnhandled (words : List (List ℕ)) (holds : List ℕ → Option (List ℕ)) (kept : Option Image) (left left' : Option (List ℕ)) (sent : Sent) (said said' : Option (List ℕ)) : Type 0 where
   pub class : ℕ
   pub site : Place
   pub ended : IsEnded words holds kept left left' sent (endings.Unhandled class site)
-  pub line : WasGiven said (unhandled_line (name_of ended.command) (class_text ended.ends.whole.names ended.ends.whole.program class) site) said'
+  pub told : List ℕ
+  pub tells : Tells ended.command.action ended.ends.whole.names ended.ends.whole.program kept ended.command.arena ended.command.steps left left' told
+  pub line : WasGiven said (unhandled_line (name_of ended.command) (class_text ended.ends.whole.names ended.ends.whole.program class) site told) said'
 
 -- Arena full: it ended for want of words; the line says how many were asked for, and how many were left
 pub record IsArenaFull (words : List (List ℕ)) (holds : List ℕ → Option (List ℕ)) (kept : Option Image) (left left' : Option (List ℕ)) (sent : Sent) (said said' : Option (List ℕ)) : Type 0 where
@@ -291,7 +321,7 @@ pub record IsReadFault (words : List (List ℕ)) (holds : List ℕ → Option (L
 pub record IsCutOff (words : List (List ℕ)) (holds : List ℕ → Option (List ℕ)) (kept : Option Image) (left left' : Option (List ℕ)) (sent : Sent) : Type 0 where
   pub ended : IsEnded words holds kept left left' sent endings.WriteFault
 
--- No memory: it ended by a condition whose class could not be named
+-- No memory: it ended by a condition that could not be told
 pub record IsUnnamed (words : List (List ℕ)) (holds : List ℕ → Option (List ℕ)) (kept : Option Image) (left left' : Option (List ℕ)) (sent : Sent) : Type 0 where
   pub class : ℕ
   pub site : Place

@@ -9,7 +9,7 @@ ghost use Rattle.top_command.specs.declared.command.Action.TheVariants.{Plain as
 use crate::ended::answer_of;
 use crate::reading::read_program;
 use base::{LONGEST_TEXT, NoMemory, Shelf, Sink, Source};
-use eval_run::evaluate;
+use eval_run::{Counted, evaluate_counted};
 use front_files::{Mode, Whole};
 use std::alloc::Global;
 use top_exec::{Bounds, LoadStop, loading};
@@ -63,7 +63,7 @@ fn plain<S: Source, O: Sink>(
 {
     let levels = u64::from(bounds.steps);
     let words = u64::from(bounds.arena);
-    match evaluate(
+    match evaluate_counted(
         alloc,
         &whole.program,
         &whole.names,
@@ -72,7 +72,7 @@ fn plain<S: Source, O: Sink>(
         input,
         out,
     ) {
-        Ok(end) => answer_of(alloc, whole, bounds.steps, end),
+        Ok(Counted { end, told, .. }) => answer_of(alloc, whole, bounds.steps, end, Some(told)),
         Err(NoMemory) => CommandAnswer::NoMemory,
     }
 }

@@ -3,6 +3,7 @@
 ghost use Rattle.std.specs.Prelude.{◌≡◌, ◌≤◌, Some, None};
 ghost use Rattle.base.specs.Outside.{Rose};
 ghost use Rattle.top_command.specs.declared.command.Action.TheVariants.{Run as ToRun};
+ghost use Rattle.back_told.specs.Conditions.{TellsConditions};
 ghost use Rattle.top_exec.specs.Runs.{sent_to};
 ghost use Rattle.top_main.specs.Images.{IsImageOf};
 ghost use Rattle.top_main.specs.Answers.{ProgramAnswers, FileAnswers, IsCounted, RunsFiles};
@@ -13,6 +14,7 @@ use crate::kept::Kept;
 use crate::mode::mode_of;
 use crate::reading::read_program;
 use back_build::build;
+use back_told::law_conditions_told;
 use base::{LONGEST_TEXT, NoMemory, Shelf, Sink, Source};
 use front_files::Whole;
 use rv_machine::Image;
@@ -86,6 +88,7 @@ pub(crate) fn run<S: Source, O: Sink>(
     ensures counted { IsCounted kept.new.image bounds.arena bounds.steps (S.left input.old) result }
     ensures count { O.faults out.old ≤ O.faults out.new }
 {
+    law_conditions_told();
     match build(alloc, &whole.program, &whole.names) {
         Ok(built) => {
             let image = built.image;
@@ -112,6 +115,7 @@ fn run_built<S: Source, O: Sink>(
 ) -> ProgramRun
     requires most { bounds.arena ≤ 16777216 }
     requires is_image { IsImageOf whole.now.names whole.now.program image.now }
+    requires tells { TellsConditions whole.now.names whole.now.program image.now }
     ensures answer { ProgramAnswers result.answer ToRun whole.now.names whole.now.program (Some image.now) bounds.arena bounds.steps
         (S.left input.old) (S.left input.new)
         (sent_to (O.given out.old) (O.writes out.old) (O.given out.new) (O.writes out.new))
@@ -133,7 +137,7 @@ fn run_built<S: Source, O: Sink>(
     }
     match run_program(alloc, whole, image, bounds, input, out) {
         Ok(ended) => ProgramRun {
-            answer: answer_of(alloc, whole, bounds.steps, ended.end),
+            answer: answer_of(alloc, whole, bounds.steps, ended.end, ended.told),
             words,
             executed: ended.executed,
         },

@@ -4,7 +4,7 @@ use Rattle.lang_meaning.specs.Evaluation.{Evaluation}
 use Rattle.eval_run.proofs.Before.{broken_before}
 use Rattle.eval_run.proofs.Cells.{few_flat_cells}
 use Rattle.eval_run.proofs.Meant.{Known}
-use Rattle.eval_run.proofs.Told.{known_of, runs_told, ends_told, units_told, faults_told, breaks_told}
+use Rattle.eval_run.proofs.Told.{known_of, runs_told, ends_told, units_told, tells_told, faults_told, breaks_told}
 use Rattle.eval_run.proofs.evaluating.evaluate_counted.Goals as goal
 
 pub returns-in_err-flat-clause-breaks_off : goal.returns-in_err-flat-clause-breaks_off
@@ -20,7 +20,7 @@ pub returns-clause-ends : goal.returns-clause-ends
 returns-clause-ends g c =
     let e : Evaluation = record { names = c.args.names.now; program = c.args.program.now; levels = c.args.levels; words = c.args.words } in
     let flat = c.in_ok-flat.ensures in
-    let known : Known e = known_of e c.in_ok-flat.flat c.law_machine.ensures c.law_printing.ensures c.law_reading.ensures c.law_units.ensures c.law_words.ensures flat.made flat.same_runs in
+    let known : Known e = known_of e c.in_ok-flat.flat c.law_machine.ensures c.law_printing.ensures c.law_reading.ensures c.law_units.ensures c.law_words.ensures c.law_stores.ensures c.law_alike_tellings.ensures c.rows-rows.ensures.whole flat.made flat.same_runs in
     ends_told e known c.in_ok-flat.flat flat.made _ _ _ _ c.end_of.result (
     runs_told e known c.in_ok-flat.flat flat.made _ _ _ _ c.run_flat-ended.result c.end_of.result c.run_flat-ended.ensures.ends c.run_flat-ended.ensures.stops
     c.end_of.ensures)
@@ -29,7 +29,7 @@ pub returns-clause-runs : goal.returns-clause-runs
 returns-clause-runs g c =
     let e : Evaluation = record { names = c.args.names.now; program = c.args.program.now; levels = c.args.levels; words = c.args.words } in
     let flat = c.in_ok-flat.ensures in
-    let known : Known e = known_of e c.in_ok-flat.flat c.law_machine.ensures c.law_printing.ensures c.law_reading.ensures c.law_units.ensures c.law_words.ensures flat.made flat.same_runs in
+    let known : Known e = known_of e c.in_ok-flat.flat c.law_machine.ensures c.law_printing.ensures c.law_reading.ensures c.law_units.ensures c.law_words.ensures c.law_stores.ensures c.law_alike_tellings.ensures c.rows-rows.ensures.whole flat.made flat.same_runs in
     runs_told e known c.in_ok-flat.flat flat.made _ _ _ _ c.run_flat-ended.result c.end_of.result c.run_flat-ended.ensures.ends c.run_flat-ended.ensures.stops
     c.end_of.ensures
 
@@ -37,8 +37,17 @@ pub returns-clause-units : goal.returns-clause-units
 returns-clause-units g c =
     let e : Evaluation = record { names = c.args.names.now; program = c.args.program.now; levels = c.args.levels; words = c.args.words } in
     let flat = c.in_ok-flat.ensures in
-    let known : Known e = known_of e c.in_ok-flat.flat c.law_machine.ensures c.law_printing.ensures c.law_reading.ensures c.law_units.ensures c.law_words.ensures flat.made flat.same_runs in
+    let known : Known e = known_of e c.in_ok-flat.flat c.law_machine.ensures c.law_printing.ensures c.law_reading.ensures c.law_units.ensures c.law_words.ensures c.law_stores.ensures c.law_alike_tellings.ensures c.rows-rows.ensures.whole flat.made flat.same_runs in
     units_told e known c.in_ok-flat.flat flat.made _ _ _ _ c.end_of.result (
+    runs_told e known c.in_ok-flat.flat flat.made _ _ _ _ c.run_flat-ended.result c.end_of.result c.run_flat-ended.ensures.ends c.run_flat-ended.ensures.stops
+    c.end_of.ensures)
+
+pub returns-clause-tells : goal.returns-clause-tells
+returns-clause-tells g c =
+    let e : Evaluation = record { names = c.args.names.now; program = c.args.program.now; levels = c.args.levels; words = c.args.words } in
+    let flat = c.in_ok-flat.ensures in
+    let known : Known e = known_of e c.in_ok-flat.flat c.law_machine.ensures c.law_printing.ensures c.law_reading.ensures c.law_units.ensures c.law_words.ensures c.law_stores.ensures c.law_alike_tellings.ensures c.rows-rows.ensures.whole flat.made flat.same_runs in
+    tells_told e known c.in_ok-flat.flat flat.made _ _ _ _ c.end_of.result (
     runs_told e known c.in_ok-flat.flat flat.made _ _ _ _ c.run_flat-ended.result c.end_of.result c.run_flat-ended.ensures.ends c.run_flat-ended.ensures.stops
     c.end_of.ensures)
 
@@ -50,5 +59,5 @@ pub returns-clause-breaks_off : goal.returns-clause-breaks_off
 returns-clause-breaks_off g c =
     let e : Evaluation = record { names = c.args.names.now; program = c.args.program.now; levels = c.args.levels; words = c.args.words } in
     let flat = c.in_ok-flat.ensures in
-    let known : Known e = known_of e c.in_ok-flat.flat c.law_machine.ensures c.law_printing.ensures c.law_reading.ensures c.law_units.ensures c.law_words.ensures flat.made flat.same_runs in
+    let known : Known e = known_of e c.in_ok-flat.flat c.law_machine.ensures c.law_printing.ensures c.law_reading.ensures c.law_units.ensures c.law_words.ensures c.law_stores.ensures c.law_alike_tellings.ensures c.rows-rows.ensures.whole flat.made flat.same_runs in
     breaks_told e known c.in_ok-flat.flat flat.made _ _ _ _ c.run_flat-ended.result c.end_of.result c.run_flat-ended.ensures.stops c.end_of.ensures

@@ -1,5 +1,7 @@
 -- Forms begin, one after another, up to the end, or up to the one that is too many.
-use Rattle.std.proofs.Common.{◌+◌, arith}
+use Rattle.std.proofs.Common.{◌+◌, sym, subst, arith}
+use Rattle.eval_run.specs.declared.answer.Counted.{Counted}
+use Rattle.eval_run.specs.UnderWay.{HasCounted}
 use Rattle.std.proofs.lemmas.Result.{err_from_is_err_and}
 use Rattle.eval_run.proofs.Stopping.{spent}
 use Rattle.eval_run.proofs.Turning.{run_ends, run_stops}
@@ -13,7 +15,7 @@ returns-in_err-more-clause-stops g c =
 
 pub returns-then-not-more-clause-ends : goal.returns-then-not-more-clause-ends
 returns-then-not-more-clause-ends g c =
-    run_ends c.finish.result (g.S.Source.left c.args.source.now) (g.S.Source.left c.loop.source) (g.K.Sink.given c.args.sink.now) (g.K.Sink.given c.loop.sink) (g.K.Sink.given c.finish.new.sink) c.loop.counter c.args.evaluator.now c.to_form.new.evaluator (omega arith)
+    run_ends c.args.names.now c.finish.result (g.S.Source.left c.args.source.now) (g.S.Source.left c.loop.source) (g.K.Sink.given c.args.sink.now) (g.K.Sink.given c.loop.sink) (g.K.Sink.given c.finish.new.sink) c.loop.counter c.args.evaluator.now c.to_form.new.evaluator (omega arith)
     (λ e u. c.in_ok-more.ensures.under_way e (g.S.Source.left c.args.source.now) (g.S.Source.left c.loop.source) (g.K.Sink.given c.args.sink.now) (g.K.Sink.given c.loop.sink) c.loop.counter (c.loop.invariant.under_way e u)) c.finish.ensures.ends
 
 pub returns-then-not-more-clause-stops : goal.returns-then-not-more-clause-stops
@@ -55,7 +57,7 @@ returns-in_err-more-2-clause-stops g c =
 
 pub returns-then-not-more-2-clause-ends : goal.returns-then-not-more-2-clause-ends
 returns-then-not-more-2-clause-ends g c =
-    run_ends c.finish-then-not-more-2.result (g.S.Source.left c.args.source.now) (g.S.Source.left c.loop.source) (g.K.Sink.given c.args.sink.now) (g.K.Sink.given c.loop.sink) (g.K.Sink.given c.finish-then-not-more-2.new.sink) c.loop.counter c.args.evaluator.now c.to_form-2.new.evaluator (omega arith)
+    run_ends c.args.names.now c.finish-then-not-more-2.result (g.S.Source.left c.args.source.now) (g.S.Source.left c.loop.source) (g.K.Sink.given c.args.sink.now) (g.K.Sink.given c.loop.sink) (g.K.Sink.given c.finish-then-not-more-2.new.sink) c.loop.counter c.args.evaluator.now c.to_form-2.new.evaluator (omega arith)
     (λ e u. c.in_ok-more-2.ensures.under_way e (g.S.Source.left c.args.source.now) (g.S.Source.left c.loop.source) (g.K.Sink.given c.args.sink.now) (g.K.Sink.given c.loop.sink) c.loop.counter (c.loop.invariant.under_way e u)) c.finish-then-not-more-2.ensures.ends
 
 pub returns-then-not-more-2-clause-stops : goal.returns-then-not-more-2-clause-stops
@@ -70,8 +72,10 @@ returns-in_err-write_printed-clause-stops g c =
 
 pub returns-clause-ends : goal.returns-clause-ends
 returns-clause-ends g c =
-    λ e u.
-    spent e (g.S.Source.left c.args.source.now) (g.S.Source.left c.loop.source) (g.K.Sink.given c.args.sink.now) (g.K.Sink.given c.write_printed.new.sink) c.loop.counter c.write_printed.new.evaluator (omega arith) c.in_ok-write_printed.ensures.all
+    λ e same u.
+    let P : Counted → Type 0 = HasCounted e (g.S.Source.left c.args.source.now) (g.S.Source.left c.loop.source) (g.K.Sink.given c.args.sink.now) (g.K.Sink.given c.write_printed.new.sink) in
+    subst P (sym c.untold.ensures)
+    (spent e (g.S.Source.left c.args.source.now) (g.S.Source.left c.loop.source) (g.K.Sink.given c.args.sink.now) (g.K.Sink.given c.write_printed.new.sink) c.loop.counter c.write_printed.new.evaluator (omega arith) c.in_ok-write_printed.ensures.all
     (begins_still c.to_form-2.new.evaluator c.write_printed.new.evaluator c.in_ok-more-2.more c.if-not-more-2.false
     (machine_same c.to_form-2.new.evaluator c.write_printed.new.evaluator c.in_ok-write_printed.ensures.same) c.in_ok-more-2.ensures.stopped)
-    (c.in_ok-write_printed.ensures.under_way e (g.S.Source.left c.args.source.now) (g.S.Source.left c.loop.source) (g.K.Sink.given c.args.sink.now) c.loop.counter (c.in_ok-more-2.ensures.under_way e (g.S.Source.left c.args.source.now) (g.S.Source.left c.loop.source) (g.K.Sink.given c.args.sink.now) (g.K.Sink.given c.loop.sink) c.loop.counter (c.loop.invariant.under_way e u)))
+    (c.in_ok-write_printed.ensures.under_way e (g.S.Source.left c.args.source.now) (g.S.Source.left c.loop.source) (g.K.Sink.given c.args.sink.now) c.loop.counter (c.in_ok-more-2.ensures.under_way e (g.S.Source.left c.args.source.now) (g.S.Source.left c.loop.source) (g.K.Sink.given c.args.sink.now) (g.K.Sink.given c.loop.sink) c.loop.counter (c.loop.invariant.under_way e u))))

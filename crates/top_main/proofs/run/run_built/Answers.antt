@@ -12,7 +12,7 @@ returns-then-bounds-words-clause-counted g c = λ done image is. absurd (cc)
 
 pub returns-in-Ok-clause-answer : goal.returns-in-Ok-clause-answer
 returns-in-Ok-clause-answer g c =
-    of_run c.answer_of.result c.in-Ok.ended.end _ _ _ _ _ _ _ _ _ _ _ c.requires.is_image (omega (arith, c.words-words.ensures.exact, c.if-bounds-words.false)) c.in-Ok.ensures.comes c.in-Ok.ensures.fault c.answer_of.ensures
+    of_run c.answer_of.result c.in-Ok.ended.end _ _ _ _ _ _ _ _ _ _ _ c.requires.is_image (omega (arith, c.words-words.ensures.exact, c.if-bounds-words.false)) c.in-Ok.ensures.comes c.in-Ok.ensures.fault c.in-Ok.ended.told c.in-Ok.ensures.tells c.answer_of.ensures
 
 pub returns-in-Ok-clause-counted : goal.returns-in-Ok-clause-counted
 returns-in-Ok-clause-counted g c =

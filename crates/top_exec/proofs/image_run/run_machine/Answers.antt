@@ -1,7 +1,7 @@
 -- What the machine's run says, as what a run of the image says.
 use Rattle.rv_machine.specs.Run.{outside}
 use Rattle.top_exec.proofs.Ran.{Ran, comes}
-use Rattle.top_exec.proofs.image_run.run_image.Goals as goal
+use Rattle.top_exec.proofs.image_run.run_machine.Goals as goal
 
 pub returns-clause-comes : goal.returns-clause-comes
 returns-clause-comes g c =

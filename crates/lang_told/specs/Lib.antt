@@ -1,0 +1,5 @@
+pub mod Spelled
+pub mod Written
+pub mod Told
+pub mod Ends
+pub mod Laws
