@@ -11,10 +11,12 @@ use std::process::ExitCode;
 use std::{fs, io};
 use table::put_all;
 
-// The tables: the command and its actions, warnings, macros, the library, and the examples of its manual.
-const TABLES: [&str; 5] = [
+// The tables: the command and its actions, warnings, what is told of conditions, macros, the library, and the examples of
+// its manual.
+const TABLES: [&str; 6] = [
     "cases.txt",
     "warnings.txt",
+    "told.txt",
     "macros.txt",
     "library.txt",
     "book.txt",
